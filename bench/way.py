@@ -64,11 +64,11 @@ device/file.rt           write     NotedFile::write
 device/file.rt           flush     NotedFile::flush
 device/file.rt           sync_all  NotedFile::sync_all
 device/file.rt           metadata  NotedFile::metadata
-aries/noted.rt           begin     Notes::begin
-aries/noted.rt           end       Notes::end
-aries/noted.rt           pass      Notes::pass
-aries/noted.rt           fail      Notes::fail
-aries/files.rt           fail      Notes::fail
+job_files/noted.rt       begin     Notes::begin
+job_files/noted.rt       end       Notes::end
+job_files/noted.rt       pass      Notes::pass
+job_files/noted.rt       fail      Notes::fail
+aries/new_file.rt        fail      Notes::fail
 analysis/                base      Log::base
 analysis/                last      Log::last
 analysis/base.rt         entry     TransactionTable::entry, DirtyTable::entry
@@ -149,7 +149,7 @@ after begins of any value page insert'''.split())
 # what a way does not take
 CUTS = {
     'nothing fails': '''aries/verbose.rt words/refusal.rt words/fault.rt words/given.rt:place_without_text NoWords::from
-        device/memory.rt device/slow.rt aries/files.rt:refuse
+        device/memory.rt device/slow.rt aries/new_file.rt:refuse job_files/line.rt aries/names.rt:turn_down aries/files.rt:empty_after
         command/job.rt:missing_option command/job.rt:option_conflict command/job.rt:wrong_line Failures::rise Failures::risen
         Notes::fail Notes::pass_over Board::stop''',
     'no checkpoint': '''wal/checkpoint.rt FrameHead::bytes wal/frame.rt:checkpoint_at wal/frame.rt:transactions_at wal/frame.rt:dirties_at
@@ -160,12 +160,13 @@ CUTS = {
         wal/field.rt:put_dirty wal/field.rt:dirty_bytes wal/field.rt:state_code''',
     'a small store': 'recovery/large_store.rt recovery/large_copying.rt',
     'a recovery': 'aries/files.rt:audit_files aries/files.rt:read_file aries/program.rt:run_audit command/job.rt:audit_job',
-    'new files': '''aries/in_place.rt recovery/in_place.rt recovery/tail_file.rt aries/program.rt:run_in_place
-        aries/program.rt:text_of LogBytes::sum_of_end''',
-    'in place': 'aries/files.rt:recover_files',
+    'new files': '''aries/in_place.rt aries/names.rt aries/left.rt aries/new_tail.rt recovery/in_place.rt recovery/tail_file.rt
+        aries/program.rt:name_and_run aries/program.rt:text_of LogBytes::sum_of_end LogBytes::torn_of LogBytes::sum''',
+    'in place': '''aries/program.rt:run_recovery aries/left.rt:continue_again NewTail::keep NewTail::torn NewTail::write_whole
+        job_files/notices.rt''',
     'in pieces': 'recovery/devices.rt:recover recovery/in_place.rt:recover_in_place',
     'in memory': 'recovery/copying.rt recovery/by_pieces.rt aries/files.rt:is_longer',
-    'an audit': '''aries/files.rt:recover_files aries/in_place.rt recovery/in_place.rt aries/program.rt:run_in_place
+    'an audit': '''aries/program.rt:run_recovery aries/in_place.rt recovery/in_place.rt aries/program.rt:name_and_run
         command/job.rt:recover_job
         recovery/texts.rt:audit_texts_over''',
     'a log': 'dump/store_lines.rt page/image.rt page/file.rt',
@@ -183,16 +184,16 @@ CUTS = {
 FEW = ['nothing fails', 'no checkpoint', 'updates and commits alone are read']
 # each way: its name, the most functions that it is to have, where it begins, and what it does not take
 WAYS = [
-    ('recover, 3 records', 308, 'aries_cli/main.rt:main', FEW + ['a recovery', 'a small store', 'new files', 'in pieces', 'one worker']),
-    ('recover in place, 3 records', 340, 'aries_cli/main.rt:main', FEW + ['a recovery', 'a small store', 'in place', 'in pieces', 'one worker']),
-    ('recover in memory, 3 records, 1 worker', 268, 'aries_cli/main.rt:main', FEW + ['a recovery', 'a small store', 'new files', 'in memory', 'one worker']),
-    ('recover in memory, 3 records, 4 workers', 303, 'aries_cli/main.rt:main',
+    ('recover, 3 records', 313, 'aries_cli/main.rt:main', FEW + ['a recovery', 'a small store', 'new files', 'in pieces', 'one worker']),
+    ('recover in place, 3 records', 356, 'aries_cli/main.rt:main', FEW + ['a recovery', 'a small store', 'in place', 'in pieces', 'one worker']),
+    ('recover in memory, 3 records, 1 worker', 283, 'aries_cli/main.rt:main', FEW + ['a recovery', 'a small store', 'new files', 'in memory', 'one worker']),
+    ('recover in memory, 3 records, 4 workers', 318, 'aries_cli/main.rt:main',
      FEW + ['a recovery', 'a small store', 'new files', 'in memory', 'several workers', 'a short log']),
-    ('recover in memory, 100 MB with a checkpoint, 4 workers', 356, 'aries_cli/main.rt:main',
+    ('recover in memory, 100 MB with a checkpoint, 4 workers', 371, 'aries_cli/main.rt:main',
      ['nothing fails', 'a recovery', 'a small store', 'new files', 'in memory', 'several workers', 'a long log']),
-    ('aries_recover (C)', 165, 'aries_c/recovered.rt:aries_recover', FEW + ['no threads']),
-    ('audit, with a checkpoint', 232, 'aries_cli/main.rt:main', ['nothing fails', 'an audit']),
-    ('aries_dump log', 145, 'aries_dump/main.rt:main', ['nothing fails', 'a log']),
+    ('aries_recover (C)', 164, 'aries_c/recovered.rt:aries_recover', FEW + ['no threads']),
+    ('audit, with a checkpoint', 236, 'aries_cli/main.rt:main', ['nothing fails', 'an audit']),
+    ('aries_dump log', 157, 'aries_dump/main.rt:main', ['nothing fails', 'a log']),
 ]
 
 FUNCTION = re.compile(r'^( *)((?:pub(?:\([a-z]+\))? )?(?:const )?(?:unsafe )?(?:extern "C" )?fn )(\w+)')
@@ -204,7 +205,7 @@ def functions_of(file):
     owner = None
     for at, line in enumerate(lines):
         if re.match(r'(impl|pub trait|trait)\b.*\{', line):
-            found = re.search(r'\bfor (\w+)', line) or re.match(r'(?:impl(?:<[^>]*>)?|(?:pub )?trait) (\w+)', line)
+            found = re.search(r'\bfor (\w+)', line) or re.match(r'(?:impl(?:<(?:[^<>]|<[^<>]*>)*>)?|(?:pub )?trait) (\w+)', line)
             owner = found.group(1)
         if line == '}':
             owner = None
@@ -213,7 +214,7 @@ def functions_of(file):
             continue
         indent = head.group(1)
         opened = at
-        while not re.match(rf'{indent}(\{{|\{{\}}|\)( -> .*)? \{{)$', lines[opened]) and not (opened == at and line.endswith(('{', '{}'))):
+        while not re.match(rf'{indent}(\{{|\{{\}}|(?:>\(.*)?\)( -> .*)? \{{)$', lines[opened]) and not (opened == at and line.endswith(('{', '{}'))):
             opened += 1
             if opened == len(lines) or lines[opened - 1].endswith(';') and opened == at + 1 or lines[opened] == indent + ';':
                 opened = None

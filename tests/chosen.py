@@ -19,8 +19,7 @@ def instructions_of(log, store):
 
 def check_chosen(tally, room):
     if not shutil.which("valgrind") and not os.environ.get("CI"):
-        print("skipped: valgrind is missing, so no instruction of an audit is counted")
-        return
+        return tally.skip("instructions of an audit", "since valgrind is missing")
     maker, store = os.path.join(room, "choose_numbers"), os.path.join(room, "chosen-store")
     run(["cc", "-O2", "-o", maker, os.path.join(TOP, "tests/choose_numbers.c")], check=True)
     with open(store, "wb") as file:

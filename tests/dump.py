@@ -1,13 +1,12 @@
-"""The checks of `aries_dump`, which tests/run.py makes: its lines on every small row, on rows of real size and on bytes of every kind, against a second
+"""The checks of `aries_dump`, which `tests/run.py dump` makes: its lines on every small row, on rows of real size and on bytes of every kind, against a second
 reader; its options; what it says of damaged files; and each growth of memory refused in turn."""
 import os
 import subprocess
 import tarfile
 
 from lines import STYLES, lines_of_log, lines_of_store
-from program import LARGE_ROWS, SMALL_ROWS, TOP, bytes_of, has_refused, run
-
-DUMP = os.path.join(TOP, "crates/aries_dump/out/aries_dump")
+from program import DUMP, LARGE_ROWS, SMALL_ROWS, bytes_of, has_refused, run
+from recoveries import Refuser
 
 # A log of one update and one commit, and a store of one page, byte by byte as docs/FORMATS.md shows them.
 LOG = bytes.fromhex("41524945534c4731" "0000001d01000000000000000100000001000000000000000000000000" "00ff0161"
@@ -170,11 +169,11 @@ def check_growth(tally, refuser):
     tally.say(f"dump, {count} growths refused in turn", right and count > 0)
 
 
-def check_dump(tally, room, refuser):
+def check_dump(tally, room):
     check_by_hand(tally, room)
     check_rows(tally)
     check_large_rows(tally, room)
     check_options(tally, room)
     check_damage(tally, room)
     check_words(tally, room)
-    check_growth(tally, refuser)
+    check_growth(tally, Refuser(room))

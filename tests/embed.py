@@ -1,17 +1,10 @@
-#!/usr/bin/env python3
-"""Runs the proved library as a program in C has it: every call of the header, a journal that crashes, the worked rows,
-the files that survive a power cut, a bank and a key-value store that are killed, what is installed, and the wrapper in
-Rust.
+"""The library as a program in C has it: every call of the header, a journal that crashes, the worked rows, the files that survive a power cut, a bank and a
+key-value store that are killed, what is installed, and the wrapper in Rust.
 
-usage: tests/embed.py [--backend llvm|rattle|both] [--library FOLDER] [--kills N]
-       at the top of the repository, behind `rt ci` and `tests/run.py`
-
-Builds the archive from what `rt ci` left, through both back ends, which then have to agree on all rows, or through one;
-or takes libaries_c.a from a folder. Compiles and links C by the toolchain's own clang. Prints a line for each check,
-and at last `N passed, N failed`; the status is 1 where one failed. Takes python3, cc and the C library's headers; what
-is installed is tried by pkg-config and cmake, and the wrapper by cargo, where they are there.
+The archive is built from what `rt ci` left, through both back ends, which then have to agree on all rows, or through one; or libaries_c.a is taken from a
+folder. C is compiled and linked by the toolchain's own clang. `tests/run.py c-..` makes these checks. They take python3, cc and the C library's headers; what
+is installed is tried by pkg-config and cmake, and the wrapper by cargo, if they are there.
 """
-import argparse
 import os
 import re
 import shutil
@@ -26,7 +19,7 @@ sys.path.append(os.path.join(os.path.dirname(os.path.dirname(os.path.abspath(__f
 from build import PROFILE, header_of
 from files import check_files
 from marks import check_marks
-from program import ARIES, LARGE_ROWS, SMALL_ROWS, TOP, Tally, folder_of_toolchain, run, text_of, words_of_a_crate
+from program import ARIES, LARGE_ROWS, SMALL_ROWS, TOP, folder_of_toolchain, run, text_of, words_of_a_crate
 
 CRATE = "aries_c"
 ARCHIVE = f"lib{CRATE}.a"
@@ -171,7 +164,7 @@ def check_journal(tally, toolchain, archive, how):
         program = toolchain.program(name, [source], archive, toolchain.flags())
         ran = program and run([program], text=True)
         tally.say(f"{name}.c{how}", bool(ran) and ran.returncode == 0, ran and ran.stdout)
-        if program and shutil.which("valgrind"):
+        if program and tally.has_tool("valgrind", f"{name}.c by valgrind{how}"):
             ran = run(["valgrind", "-q", "--error-exitcode=2", *flags, program, less], text=True)
             tally.say(f"{name}.c by valgrind{how}", ran.returncode == 0, ran.stdout + ran.stderr)
 
@@ -422,14 +415,6 @@ def check_command(tally, prefix):
         tally.say(f"the command {name}", (ran.returncode, ran.stdout) == (3, f"{heard}\naudit\na b\n\n"))
 
 
-def has_tool(name, what):
-    """Whether the machine has this tool; else a line says what is left out."""
-    is_there = shutil.which(name) is not None
-    if not is_there:
-        print(f"skipped: {what}, since {name} is missing")
-    return is_there
-
-
 def check_installed(tally, room, archive):
     prefix, user = os.path.join(room, "prefix"), os.path.join(room, "user")
     os.mkdir(user)
@@ -443,11 +428,11 @@ def check_installed(tally, room, archive):
     tally.say("the man pages", len(pages) == 3 and all(os.path.exists(page) for page in pages))
     if ran.returncode == 0 and os.path.exists(os.path.join(prefix, "bin/aries")):
         check_command(tally, prefix)
-    if ran.returncode == 0 and has_tool("pkg-config", "what is installed, by pkg-config"):
+    if ran.returncode == 0 and tally.has_tool("pkg-config", "what is installed, by pkg-config"):
         tally.say("by pkg-config", is_pkg_config_right(user, prefix, "aries", "user.c", is_user_right))
         is_well = is_pkg_config_right(user, prefix, "aries_files", "files.c", is_files_user_right)
         tally.say("aries_files by pkg-config", is_well)
-    if ran.returncode == 0 and has_tool("cmake", "what is installed, by cmake"):
+    if ran.returncode == 0 and tally.has_tool("cmake", "what is installed, by cmake"):
         tally.say("by cmake", is_cmake_right(user, prefix))
 
 
@@ -459,52 +444,63 @@ def check_wrapper(tally, room, archive):
     tally.say("the wrapper in Rust", ran.returncode == 0, ran.stdout + ran.stderr)
 
 
-def asked_for():
-    parser = argparse.ArgumentParser(description="runs the proved library as a program in C has it")
-    parser.add_argument("--backend", choices=("llvm", "rattle", "both"), default="both")
-    parser.add_argument("--library", help=f"the folder of {ARCHIVE}, in place of building it")
-    parser.add_argument("--kills", type=int, default=30)
-    return parser.parse_args()
+class Embedded:
+    """The toolchain and the archives, each made when a check first asks for it."""
+
+    def __init__(self, room, library=None, backend="both", kills=30):
+        self.room, self.library, self.backend, self.kills = room, library, backend, kills
+        self.made = None
+        self.toolchain = Toolchain(room)
+
+    def archives(self, tally):
+        """The archives, each with the words that name it in a check."""
+        if self.made is None:
+            self.made = self.built()
+            for how, archive in self.made.items():
+                tally.say(f"the archive{how}", archive is not None)
+        return {how: archive for how, archive in self.made.items() if archive}
+
+    def built(self):
+        if self.library:
+            return {"": os.path.join(os.path.abspath(self.library), ARCHIVE)}
+        if self.backend != "both":
+            return {"": built_archive(self.toolchain, self.backend)}
+        backends = ("llvm", "rattle")
+        with ThreadPoolExecutor() as pool:
+            made = pool.map(lambda backend: built_archive(self.toolchain, backend), backends)
+            return {f", back end {backend}": archive for backend, archive in zip(backends, made)}
 
 
-def archives(asked, toolchain):
-    """The archives that are asked for, each with the words that tell it in a check's name."""
-    if asked.library:
-        return {"": os.path.join(os.path.abspath(asked.library), ARCHIVE)}
-    if asked.backend != "both":
-        return {"": built_archive(toolchain, asked.backend)}
-    backends = ("llvm", "rattle")
-    with ThreadPoolExecutor() as pool:
-        made = pool.map(lambda backend: built_archive(toolchain, backend), backends)
-        return {f", back end {backend}": archive for backend, archive in zip(backends, made)}
+def by_each(check):
+    """A check of each archive."""
+    def checked(tally, embedded):
+        for how, archive in embedded.archives(tally).items():
+            check(tally, embedded.toolchain, archive, how)
+    return checked
 
 
-def main():
-    asked, tally = asked_for(), Tally()
-    with tempfile.TemporaryDirectory(prefix="aries-embed-") as room:
-        toolchain = Toolchain(room)
-        check_names(tally, toolchain)
-        check_languages_of_files(tally, toolchain)
-        tally.say("README's code is the bank's", is_code_of_the_bank("README.md"))
-        made = archives(asked, toolchain)
-        for how, archive in made.items():
-            tally.say(f"the archive{how}", archive is not None)
-            if archive:
-                check_header(tally, toolchain, archive, how)
-                check_refusals(tally, toolchain, archive, how)
-                check_journal(tally, toolchain, archive, how)
-                check_marks(tally, toolchain, archive, how)
-                check_rows(tally, toolchain, archive, how)
-        first = next(iter(made.values()))
-        if first:
-            check_files(tally, room, first)
-            check_bank(tally, toolchain, first, asked.kills)
-            check_own_log(tally, toolchain, first, asked.kills)
-            check_installed(tally, room, first)
-            if has_tool("cargo", "the wrapper in Rust"):
-                check_wrapper(tally, room, first)
-    print(f"{tally.passed} passed, {tally.failed} failed")
-    sys.exit(1 if tally.failed else 0)
+def by_one(check):
+    """A check of one archive, which takes what it needs of the rest."""
+    def checked(tally, embedded):
+        for archive in list(embedded.archives(tally).values())[:1]:
+            check(tally, embedded, archive)
+    return checked
 
 
-main()
+def names_of_c(tally, embedded):
+    check_names(tally, embedded.toolchain)
+    check_languages_of_files(tally, embedded.toolchain)
+    tally.say("README's code is the bank's", is_code_of_the_bank("README.md"))
+
+
+def rust_wrapper(tally, embedded, archive):
+    if tally.has_tool("cargo", "the wrapper in Rust"):
+        check_wrapper(tally, embedded.room, archive)
+
+
+header, refusals, journal, marks, rows = (by_each(check) for check in (check_header, check_refusals, check_journal, check_marks, check_rows))
+files = by_one(lambda tally, it, archive: check_files(tally, it.room, archive))
+bank = by_one(lambda tally, it, archive: check_bank(tally, it.toolchain, archive, it.kills))
+own_log = by_one(lambda tally, it, archive: check_own_log(tally, it.toolchain, archive, it.kills))
+installed = by_one(lambda tally, it, archive: check_installed(tally, it.room, archive))
+wrapper = by_one(rust_wrapper)

@@ -17,9 +17,8 @@ import tempfile
 import time
 
 sys.dont_write_bytecode = True  # no folder of it beside the tests
-from program import ARIES, TOP, Tally, bytes_of, in_doubt, library_of, run
+from program import ARIES, ENGINE, Tally, bytes_of, in_doubt, library_of, run
 
-ENGINE = os.path.join(TOP, "crates/engine/out/engine")
 IN_MEMORY = "/dev/shm"  # where files are synced in no time
 HISTORIES, LIVES, STEPS = 12, 10, 4000
 LONGEST, MOST_CALLS = 0.03, 120  # the longest life in seconds, and in calls

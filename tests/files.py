@@ -5,7 +5,7 @@ of engines, opens each, and checks what was opened; and plants mistakes, which i
 usage: tests/files.py --library FOLDER [--states N] [--seed N] [--plants quick|all|none] [--jobs N]
 
 FOLDER has libaries_c.a. --states: so many crash states for each way to run, and for each way to look for a mistake that
-is not found quickly. The full run: --states 300000 --plants all. tests/embed.py calls check_files with what is quick.
+is not found quickly. The full run: --states 300000 --plants all. `tests/run.py c-files` calls check_files with what is quick.
 Takes python3 and cc.
 """
 import argparse

@@ -21,9 +21,8 @@ from disk import Disk
 from in_place import REPLACE, WRITING, Place, before, commit_after, different, each, has_finished, kept_of, name_of, next_lsn, replaced, row_named, say, shown
 from in_place import tail_of, tail_text, traced, wrong_after_cut
 from long_logs import frame
-from program import ARIES, TOP, Tally, bytes_of, has_printed, has_refused, library_of, run
+from program import ARIES, DUMP, Tally, bytes_of, has_printed, has_refused, library_of, run
 
-DUMP = os.path.join(TOP, "crates/aries_dump/out/aries_dump")
 WRITING_STORE = b"fault 5: writing the store failed\n"
 LONGEST_UPDATE = 128  # bytes of the longest frame but a checkpoint's
 LONG_TORN = struct.pack(">IB", 500, 1) + b"T" * 300  # part of a frame of 504 bytes
@@ -226,7 +225,7 @@ def rights(place, name):
 
 def check_owner(tally, room):
     if os.geteuid() != 0:
-        return print("in place: the owner of the new store: skipped, not root")
+        return tally.skip("in place: the owner of the new store", "since this is not root")
     row = row_named("two-losers", room)
     with Place(room, before(row)) as place:
         for name in ("log", "store"):

@@ -2,7 +2,6 @@
 rows, whole, cut, and damaged as by a power cut. What is expected comes from tests/lines.py, which reads logs by docs/FORMATS.md alone."""
 import os
 import random
-import shutil
 
 from lines import Damaged, frame_at
 from program import SMALL_ROWS, TOP, bytes_of, run
@@ -105,6 +104,6 @@ def check_marks(tally, toolchain, archive, how):
     printed = run([program, *files], text=True).stdout.splitlines()
     wrong = next(((number, *pair) for number, pair in enumerate(zip(wanted, printed)) if pair[0] != pair[1]), None)
     tally.say(f"{len(logs)} logs record by record, whole and damaged{how}", wanted == printed, wrong or (len(wanted), len(printed)))
-    if shutil.which("valgrind"):
+    if tally.has_tool("valgrind", f"marks.c by valgrind{how}"):
         ran = run(["valgrind", "-q", "--error-exitcode=2", program, *files[:60]], text=True)
         tally.say(f"marks.c by valgrind{how}", ran.returncode == 0, ran.stderr)

@@ -154,7 +154,7 @@ def check_modes(tally, row):
 def check_groups(tally, row):
     """The rights of a group are not given to another group, nor those of others to the old group's members. To run as a user without groups takes root."""
     if os.geteuid() != 0:
-        return print("modes of another group: skipped, not root")
+        return tally.skip("modes of another group", "since this is not root")
     room = os.path.dirname(row.folder)
     program, new = shutil.copy(ARIES, room), os.path.join(room, "new-of-nobody")
     os.mkdir(new)

@@ -2,11 +2,9 @@
 `tests/run.py` calls these."""
 import os
 import re
-import shutil
 
-from program import ARIES, TOP, run, text_of
+from program import ARIES, DUMP, TOP, run, text_of
 
-DUMP = os.path.join(TOP, "crates/aries_dump/out/aries_dump")
 COMMANDS = [("aries.1", ARIES, ("recover", "audit")), ("aries_dump.1", DUMP, ("log", "store"))]
 FORMATS = "man/aries-formats.5"
 
@@ -78,7 +76,7 @@ def check_pages(tally):
             wrong = [(command, told.get(command), synopses_by_help(program, command)) for command in commands]
             wrong = [(command, here, there) for command, here, there in wrong if here != there]
             tally.say(f"synopses of man/{page}", not wrong and set(told) == set(commands), wrong)
-    if shutil.which("groff"):
+    if tally.has_tool("groff", "the man pages set"):
         for page in (*(f"man/{page}" for page, _, _ in COMMANDS), FORMATS):
             ran = run(["groff", "-man", "-Tutf8", "-ww", "-z", os.path.join(TOP, page)], text=True)
             tally.say(f"{page} is set without a warning", ran.returncode == 0 and not ran.stderr, ran.stderr)

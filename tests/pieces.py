@@ -275,7 +275,8 @@ def fault_beside_a_folder(room, log, words, is_piped):
         return fault_in(ran.stderr), bytes_of(at("log")) == log, bytes_of(at("new-log")) + bytes_of(at("new-store"))
 
 
-def check_order(tally, room, library):
+def check_order(tally, room):
+    library = library_of(room, "watch_calls")
     log, store = like_frames(True)
     bad = log[:100] + b"\xff" * 50 + log[150:]
     for way, words, is_piped in (("into new files", into_files, False), ("in memory", into_files, True), ("in place", in_place, False)):
@@ -288,8 +289,9 @@ def check_order(tally, room, library):
             tally.say(f"{what}, and a log's read that fails, {way}", is_well, (len(faults), sorted(set(faults))))
 
 
-def check_nothing_out(tally, room, library):
+def check_nothing_out(tally, room):
     """After fault 2 or 3 of a good log nothing of a result is out, whichever call fails."""
+    library = library_of(room, "watch_calls")
     log, store = like_frames(True)
     for way, words in (("into new files", into_files), ("in place", in_place), ("in place, the store replaced", replaced)):
         ends = [files for _, fault, files in calls_that_fail(room, library, log, store, words) if fault in (b"fault 2:", b"fault 3:")]
@@ -309,9 +311,8 @@ def main():
     tally = Tally()
     with tempfile.TemporaryDirectory(prefix="aries-pieces-") as room:
         check_pieces(tally, room)
-        library = library_of(room, "watch_calls")
-        check_order(tally, room, library)
-        check_nothing_out(tally, room, library)
+        check_order(tally, room)
+        check_nothing_out(tally, room)
     sys.exit(1 if tally.failed else 0)
 
 

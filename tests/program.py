@@ -1,9 +1,17 @@
 """What the tests of the programs have in common: where the programs and the rows are, how one is run on a row, and the tally."""
 import os
+import shutil
 import subprocess
 
 TOP = os.path.dirname(os.path.dirname(os.path.abspath(__file__)))
-ARIES = os.path.join(TOP, "crates/aries_cli/out/aries_cli")
+
+
+def program_of(crate):
+    """The program of a crate: the proved one that `rt ci` builds, or the one that the runner was given, which is in the environment under this name."""
+    return os.environ.get(f"PROGRAM_OF_{crate}") or os.path.join(TOP, f"crates/{crate}/out/{crate}")
+
+
+ARIES, DUMP, ENGINE, ROW_RUNNER = (program_of(crate) for crate in ("aries_cli", "aries_dump", "engine", "rows"))
 LARGE_ROWS = os.path.join(TOP, "tests/rows")
 SMALL_ROWS = os.path.join(TOP, "crates/rows/data")
 
@@ -94,14 +102,30 @@ def has_refused(ran, line):
 
 
 class Tally:
-    """Which checks passed."""
+    """Which checks passed, which were left out, and what the last lines ask for."""
 
     def __init__(self):
-        self.passed = self.failed = 0
+        self.passed = self.failed = self.skipped = 0
+        self.asked = []
 
     def say(self, what, is_well, seen=""):
+        is_well = bool(is_well)
         self.passed, self.failed = self.passed + is_well, self.failed + (not is_well)
         print(f"{what}: {'ok' if is_well else 'FAILED'}{f' ({seen})' if seen and not is_well else ''}", flush=True)
+
+    def skip(self, what, why):
+        self.skipped += 1
+        print(f"{what}: skipped, {why}", flush=True)
+
+    def has_tool(self, name, what):
+        """Whether the machine has this tool; else the check is left out."""
+        is_there = shutil.which(name) is not None
+        if not is_there:
+            self.skip(what, f"since {name} is missing")
+        return is_there
+
+    def __str__(self):
+        return f"{self.passed} passed, {self.failed} failed" + (f", {self.skipped} skipped" if self.skipped else "")
 
 
 def library_of(room, name):

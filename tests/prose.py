@@ -125,7 +125,7 @@ def check_prose(tally):
     above = [f"{group}: {expression}: {now[group, expression]}, kept {kept.get((group, expression), 0)}" for group, expression in sorted(now)
              if now[group, expression] > kept.get((group, expression), 0)]
     tally.say("no expression is found more often than before", not above, "; ".join(above))
-    return [f"KEEP tests/prose.txt: {expression} in {group}: {now.get((group, expression), 0)}" for group, expression in sorted(kept)
+    tally.asked += [f"KEEP tests/prose.txt: {expression} in {group}: {now.get((group, expression), 0)}" for group, expression in sorted(kept)
             if now.get((group, expression), 0) < kept[group, expression]]
 
 

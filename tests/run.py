@@ -1,443 +1,153 @@
 #!/usr/bin/env python3
-"""Runs the proved programs as they are: on rows of real size, on logs that are read in two parts, on the small rows in version 2, with threads counted, with
-files that are missing, stand already, or are of another profile, with wrong lines, with --verbose, in place with kills and power cuts, after an engine was killed or lost power, in
-pieces and in memory, with each byte of a row another one, with prints that fail, and with each growth of memory refused in turn. And looks whether the documents
-and the man pages are true of them, whether each wrong body that the prover must refuse can still be applied, and whether a workload takes more instructions than
-it may.
+"""Runs the checks of the programs, of the library for C, and of the documents: all of them, or those that are named.
 
-usage: tests/run.py        at the top of the repository, behind `rt ci`, which builds the programs
+usage: tests/run.py [--list] [--program FILE] [--dump FILE] [--library FOLDER] [--backend llvm|rattle|both] [--kills N] [NAME ..]
+       at the top of the repository
 
-Prints a line for each check, and at last `N passed, N failed`; the status is 1 where one failed. Takes python3 and cc, and valgrind for the instructions.
+Without options this runs each check, after `rt ci`, which builds what they need. `--list` prints their names and what each looks for. With a program, a dump
+or a library of your own, proved or not, the checks that need something else are left out. A name picks one check, or all whose names begin with it and a
+hyphen, such as `c`. Prints a line for each thing that was looked at, and at last `N passed, N failed`, and how many were skipped; the status is 1 if one
+failed. Takes python3 and cc. What needs valgrind, groff, pkg-config, cmake or cargo is skipped if that is missing.
 """
-import functools
+import argparse
+import importlib
 import os
-import re
-import shutil
-import subprocess
 import sys
-import tarfile
 import tempfile
+import time
+from collections import namedtuple
 
 sys.dont_write_bytecode = True  # no folder of it beside the tests
-from borrow import check_borrow
-from chosen import check_chosen
-from clauses import check_clauses
-from contracts import check_contracts
-from dump import check_dump
-from edits import check_edits
-from engine import ENGINE, check_engine
-from found import check_found
-from in_place import check_in_place
-from long_logs import LARGEST_BASE, check_long_logs, long_row
-from operate import check_operation
-from pages import check_pages
-from pieces import check_nothing_out, check_order, check_pieces
-from program import ARIES, LARGE_ROWS, SMALL_ROWS, TOP, Row, Tally, bytes_of, has_printed, has_refused, in_doubt, library_of, run, text_of
-from prose import check_prose
-from sizes import check_sizes
-from spoiled import check_spoiled
-
-sys.path.append(os.path.join(TOP, "profiles"))
-from row_files import PROFILE, Profile, in_profile
-
-ROW_RUNNER = os.path.join(TOP, "crates/rows/out/rows")
-REFUSED_ROWS = ["one-commit", "two-losers", "checkpoint-loser", "prepared-beside-loser", "empty-and-full-values", "ten-pages"]
-NO_RESOURCE = b"fault 1: no resource\n"
-
-
-# Rows of real size: what is expected was worked by a model that shares no code with the program.
-
-def check_large_row(tally, name, row):
-    over = ("--base", row.at("base")) if os.path.exists(row.at("base")) else ()
-    for workers, parts in ((1, 1), (4, 16), (64, 4096)):
-        ran = row.recover(workers=workers, parts=parts, is_piped=True)
-        is_well = has_printed(ran, bytes_of(row.at("printed"))) and row.is_recovered()
-        tally.say(f"{name}, {workers} workers, {parts} parts", is_well, ran.stderr)
-    ran = row.recover()
-    is_well = has_printed(ran, bytes_of(row.at("printed"))) and row.is_recovered()
-    tally.say(f"{name}, in pieces", is_well, ran.stderr)
-    tally.say(f"{name}, audit", has_printed(row.audit(more=over), bytes_of(row.at("audited"))))
-    tally.say(f"{name}, audit of its outcome", has_printed(row.audit("out-log", "out-store", over), b"lawful\n"))
-    again = row.recover("out-log", "out-store")
-    is_well = again.returncode == 0 and row.is_recovered() and in_doubt(again.stdout) == in_doubt(bytes_of(row.at("printed")))
-    tally.say(f"{name}, its outcome again", is_well, again.stderr)
-
-
-def check_large_rows(tally, room):
-    for archive in sorted(os.listdir(LARGE_ROWS)):
-        name = archive.partition(".")[0]
-        with tarfile.open(os.path.join(LARGE_ROWS, archive)) as files:
-            files.extractall(room)
-        check_large_row(tally, name, Row(os.path.join(room, name), room))
-
-
-# Version 2 of a log: with base 0 it says what version 1 says, and keeps its own header.
-
-def in_version_2(log):
-    return b"ARIESLG2" + bytes(8) + log[8:]
-
-
-def moved_back(printed):
-    """What was printed, with the offset that version 1 gives: there the frames stand 8 bytes nearer to the beginning."""
-    words = printed.split(b" at byte ")
-    if len(words) < 2:
-        return printed
-    return b"%s at byte %d\n" % (words[0], int(words[1]) - 8)
-
-
-def is_same_in_version_2(row, ran):
-    """Whether a recovery prints what it prints of version 1, and makes the same files, the header aside."""
-    expected = bytes_of(row.at("printed"))
-    if ran.returncode == 1:
-        return moved_back(ran.stderr) == expected and row.is_nothing_out()
-    log, store = in_version_2(bytes_of(row.at("out-log"))), bytes_of(row.at("out-store"))
-    return has_printed(ran, expected) and bytes_of(row.new_at("log")) == log and bytes_of(row.new_at("store")) == store
-
-
-def check_row_in_version_2(tally, row, log):
-    name = os.path.basename(row.folder)
-    if os.path.exists(row.at("printed")):
-        ran = row.recover(log=log)
-        tally.say(f"{name} in version 2", is_same_in_version_2(row, ran), ran.stderr)
-    if os.path.exists(row.at("audited")):
-        over = ("--base", row.at("base")) if os.path.exists(row.at("base")) else ()
-        ran = row.audit(log=log, more=over)
-        is_same = moved_back(ran.stdout + ran.stderr) == bytes_of(row.at("audited"))
-        tally.say(f"{name} in version 2, audit", is_same, ran.stderr)
-
-
-def check_version_2(tally, room):
-    log = os.path.join(room, "version-2")
-    for name in sorted(os.listdir(SMALL_ROWS)):
-        row = Row(os.path.join(SMALL_ROWS, name), room)
-        text = bytes_of(row.at("log")) if os.path.isdir(row.folder) else b""
-        if text.startswith(b"ARIESLG1"):
-            with open(log, "wb") as file:
-                file.write(in_version_2(text))
-            check_row_in_version_2(tally, row, log)
-
-
-# Files and words: what the program prints, its status, and which files it makes.
-
-def check_files(tally, room):
-    row = Row(os.path.join(SMALL_ROWS, "one-commit"), room)
-    ran = row.recover()
-    tally.say("a recovery", has_printed(ran, bytes_of(row.at("printed"))) and row.is_recovered(), ran.stderr)
-    words = ["recover", "--log", row.at("log"), "--store", row.at("store"), "--out-log"]
-    for stands, line in (("log", b"fault 4: writing the log failed\n"), ("store", b"fault 5: writing the store failed\n")):
-        folder = os.path.join(room, f"{stands}-stands")
-        os.mkdir(folder)
-        with open(os.path.join(folder, stands), "w") as mine:
-            mine.write("mine")
-        ran = run([ARIES, *words, os.path.join(folder, "log"), "--out-store", os.path.join(folder, "store")])
-        tally.say(f"a {stands} stands there", has_refused(ran, line) and bytes_of(os.path.join(folder, stands)) == b"mine", ran.stderr)
-    both = os.path.join(room, "both")
-    ran = run([ARIES, *words, both, "--out-store", both])
-    tally.say("one path for both", has_refused(ran, b"fault 5: writing the store failed\n") and bytes_of(both) == b"", ran.stderr)
-
-
-def check_missing_files(tally, room):
-    row = Row(os.path.join(SMALL_ROWS, "one-commit"), room)
-    for log, store, line in (
-        ("none", "none", b"fault 2: reading the log failed\n"),
-        ("log", "none", b"fault 3: reading the store failed\n"),
-    ):
-        ran = row.recover(log, store)
-        is_none_made = not os.path.exists(row.new_at("log")) and not os.path.exists(row.new_at("store"))
-        tally.say(f"recovery of {log}, {store}", has_refused(ran, line) and is_none_made, ran.stderr)
-        tally.say(f"audit of {log}, {store}", has_refused(row.audit(log, store), line))
-    tally.say("a store for a log", has_refused(row.audit("store", "log"), b"fault 6: bad log header\n"))
-    # The base store is read behind the store, and decoded behind it.
-    base = ["--base", row.at("none")]
-    tally.say("no base store", has_refused(row.audit(more=base), b"fault 3: reading the store failed\n"))
-    tally.say("a bad log before a base store", has_refused(row.audit("store", "store", more=["--base", row.at("log")]), b"fault 6: bad log header\n"))
-    tally.say("a log for a base store", has_refused(row.audit(more=["--base", row.at("log")]), b"fault 10: bad store header\n"))
-
-
-def check_words(tally, room):
-    row = Row(os.path.join(SMALL_ROWS, "one-commit"), room)
-    ran = run([ARIES, "--help"])
-    tally.say("help", ran.returncode == 0 and b"recover" in ran.stdout and not ran.stderr)
-    ran, names = run([ARIES, "recover", "--help"]), [line.split()[0] for line in bytes_of(row.at("printed")).splitlines()]
-    told = ran.stdout.partition(b"It prints eight lines:\n")[2].splitlines()[:len(names)]
-    is_well = ran.returncode == 0 and not ran.stderr and [line.split()[0] for line in told] == names
-    tally.say("help of a recovery tells the lines of its report", is_well, ran.stdout)
-    ran = row.recover(workers="+4")
-    tally.say("+4 workers", has_printed(ran, bytes_of(row.at("printed"))) and row.is_recovered(), ran.stderr)
-    files = ["--log", row.at("log"), "--store", row.at("store")]
-    made = [os.path.join(room, name) for name in ("made-log", "made-store")]
-    out_log, out_store, in_place = ["--out-log", made[0]], ["--out-store", made[1]], ["recover", *files, "--in-place"]
-    recover = ["recover", *files, *out_log, *out_store]
-    for what, words, named in (
-        ("no command", [], "Usage: "),
-        ("no store", ["audit", *files[:2]], "--store <FILE>"),
-        ("no workers", [*recover, "--workers", "0"], "--workers <N>"),
-        ("too many parts", [*recover, "--parts", "4097"], "--parts <N>"),
-        ("a base store for a recovery", [*recover, "--base", row.at("store")], "--base"),
-        ("no new files", ["recover", *files], "'--out-store <FILE>' is needed"),
-        ("no new log", ["recover", *files, *out_store], "'--out-log <FILE>' is needed"),
-        ("no new store", ["recover", *files, *out_log], "'--out-store <FILE>' is needed"),
-        ("a new log, and the store replaced", ["recover", *files, *out_log, "--replace"], "without '--in-place'"),
-        ("the store replaced beside a new one", [*recover, "--replace"], "'--replace' cannot be used with '--out-store <FILE>'"),
-        ("a recovery in place without a new store", in_place, "'--out-store <FILE>' is needed"),
-        ("a new log in place", [*in_place, *out_log, *out_store], "'--in-place' cannot be used with '--out-log <FILE>'"),
-        ("a new log in place, and the store replaced", [*in_place, *out_log, "--replace"], "'--in-place' cannot be used with '--out-log <FILE>'"),
-        ("two stores in place", [*in_place, *out_store, "--replace"], "'--replace' cannot be used with '--out-store <FILE>'"),
-        ("an audit in place", ["audit", *files, "--in-place"], "--in-place"),
-    ):
-        ran = run([ARIES, *words])
-        is_none_made = not any(os.path.exists(file) for file in made)
-        is_explained = named in ran.stderr.decode() and not ran.stdout
-        tally.say(f"a wrong line: {what}", ran.returncode == 2 and is_explained and is_none_made, ran.stderr)
-    ran = run([ARIES, "x\x1b[31m\x9b\u202e'"])
-    is_well = ran.returncode == 2 and rb"x\u{1b}[31m\u{9b}\u{202e}'" in ran.stderr and b"\x1b" not in ran.stderr
-    tally.say("a wrong line: a word that a terminal obeys", is_well, ran.stderr)
-    ran = run([ARIES, "audit", "--log", b"\xff"])
-    is_well = ran.returncode == 2 and ran.stderr == b"error: word 3 of the command line is no text (UTF-8)\n"
-    tally.say("a word that is no text", is_well, ran.stderr)
-
-
-# Prints that fail: nobody can write to /dev/full.
-
-def check_prints(tally, room):
-    row = Row(os.path.join(SMALL_ROWS, "one-commit"), room)
-    with open("/dev/full", "wb") as full:
-        ran = row.recover(stdout=full, stderr=subprocess.PIPE, capture_output=False)
-        is_well = ran.returncode == 1 and not ran.stderr and row.is_recovered()
-        tally.say("a report that cannot be printed", is_well, ran.stderr)
-        ran = row.audit(stdout=full, stderr=subprocess.PIPE, capture_output=False)
-        tally.say("`lawful` that cannot be printed", ran.returncode == 1 and not ran.stderr, ran.stderr)
-        ran = run([ARIES, "--help"], stdout=full, stderr=subprocess.PIPE, capture_output=False)
-        tally.say("help that cannot be printed", ran.returncode == 1, ran.stderr)
-        ran = run([ARIES, "recover"], stdout=subprocess.PIPE, stderr=full, capture_output=False)
-        tally.say("a wrong line that cannot be explained", ran.returncode == 1 and not ran.stdout)
-        ran = row.audit(log="no-such-file", stdout=subprocess.PIPE, stderr=full, capture_output=False)
-        tally.say("a fault that cannot be printed", ran.returncode == 1 and not ran.stdout)
-
-
-# Threads: none for a log in a file, which is read in pieces. For one that is read into memory more of them if more workers are asked for. What is written does
-# not tell. If none are asked for, a short log gets one worker, and a long one four.
-
-def threads_of(row, room, library, workers, is_piped=False):
-    """How many threads a recovery starts; None where it writes something else than the row says."""
-    started = os.path.join(room, "started")
-    open(started, "wb").close()
-    row.recover(workers=workers, parts=64, is_piped=is_piped, env=dict(os.environ, LD_PRELOAD=library, THREADS_STARTED=started))
-    return len(bytes_of(started)) if row.is_recovered() else None
-
-
-def check_threads(tally, room):
-    short, long, library = Row(os.path.join(SMALL_ROWS, "ten-pages"), room), long_row(room, base=LARGEST_BASE), library_of(room, "count_threads")
-    in_pieces = [threads_of(row, room, library, workers) for row in (short, long_row(room)) for workers in (4, None)]
-    tally.say("threads of a log in a file", in_pieces == [0] * 4, in_pieces)
-    counts = [threads_of(short, room, library, workers, True) for workers in (1, 4, 64)]
-    tally.say("threads of 1, 4 and 64 workers", None not in counts and counts[0] < counts[1] < counts[2], counts)
-    one = threads_of(short, room, library, None, True)
-    tally.say("threads of a short log", one is not None and one == counts[0], (one, counts))
-    both = [threads_of(long, room, library, workers) for workers in (4, None)]
-    tally.say("threads of a long log", None not in both and both[0] == both[1] > 0, both)
-
-
-# Each growth of memory refused in turn.
-
-class Refuser:
-    """Runs programs in which one growth of memory is refused, or one and all behind it."""
-
-    def __init__(self, room, behind=False):
-        self.library, self.mark = library_of(room, "refuse_growth"), os.path.join(room, "mark")
-        self.behind = {"REFUSE_BEHIND": "1"} if behind else {}
-
-    def in_turn(self, job):
-        """What each run of the job gives, the first growth refused, then the second, until none is."""
-        growth, is_refused = 0, True
-        while is_refused:
-            growth += 1
-            if os.path.exists(self.mark):
-                os.remove(self.mark)
-            more = {"LD_PRELOAD": self.library, "REFUSE_MARK": self.mark, "REFUSE_GROWTH": str(growth), **self.behind}
-            ran = job(env=dict(os.environ, **more))
-            is_refused = os.path.exists(self.mark)
-            yield ran, is_refused
-
-
-def is_no_resource(ran):
-    return ran.returncode == 1 and ran.stderr == NO_RESOURCE and not ran.stdout
-
-
-def is_right_recovery(row, ran, is_refused):
-    """Fault 1 and nothing out, or the row's files if memory for the report was refused; or these files and the report."""
-    if is_no_resource(ran) and is_refused:
-        return row.is_nothing_out() or row.is_recovered()
-    return has_printed(ran, bytes_of(row.at("printed"))) and row.is_recovered()
-
-
-def is_right_audit(row, ran, is_refused):
-    """Fault 1; or the row's verdict, which alone may be refused."""
-    if is_no_resource(ran) and is_refused:
-        return True
-    expected = bytes_of(row.at("audited"))
-    return has_printed(ran, expected) or (ran.returncode == 1 and not ran.stderr and not ran.stdout and is_refused)
-
-
-def is_right_line_of(what, ran, is_refused):
-    """What the row says; or that memory was refused; or an error of the runner itself, before or after what it does."""
-    line = ran.stdout.decode().rstrip("\n")
-    if ran.returncode == 0:
-        return line == f"{what}: ok" or (is_refused and line == f"{what}: no resource, and nothing out")
-    return is_refused and ran.returncode == 1 and not line
-
-
-def check_line(tally, room, refuser, name, word, what):
-    """Runs one line of an index on a row, each growth of memory refused in turn."""
-    folder = os.path.join(room, f"{word}-{name}")
-    shutil.copytree(os.path.join(SMALL_ROWS, name), os.path.join(folder, name))
-    with open(os.path.join(folder, "index"), "w") as index:
-        index.write(f"{name} {word}\n")
-    job = lambda **how: run([ROW_RUNNER], cwd=folder, **how)
-    check_refused_growth(tally, f"{name}, {what}", refuser, job, lambda *ran: is_right_line_of(f"{name}, {what}", *ran))
-
-
-def is_right_line(ran, is_refused):
-    """Fault 1, or what is said of a wrong line."""
-    return (is_no_resource(ran) and is_refused) or (ran.returncode == 2 and ran.stderr.startswith(b"error: ") and not ran.stdout)
-
-
-def check_refused_growth(tally, what, refuser, job, is_right):
-    """One check: no run of the job may give another answer."""
-    wrong, count = [], 0
-    for ran, is_refused in refuser.in_turn(job):
-        count += is_refused
-        if not is_right(ran, is_refused):
-            wrong.append(f"growth {count}: status {ran.returncode}, {ran.stdout!r}, {ran.stderr!r}")
-    tally.say(f"{what}, {count} growths refused in turn", not wrong and count > 0, "; ".join(wrong[:3]))
-
-
-def check_refusals(tally, room):
-    refuser, behind = Refuser(room), Refuser(room, behind=True)
-    line = [ARIES, "audit", "--log", "none", "--log", "none"]
-    check_refused_growth(tally, "a wrong line, and all behind", behind, lambda **how: run(line, **how), is_right_line)
-    unplaced = [ARIES, "recover", "--log", "none", "--store", "none"]
-    check_refused_growth(tally, "a recovery without new files, and all behind", behind, lambda **how: run(unplaced, **how), is_right_line)
-    row = Row(os.path.join(SMALL_ROWS, "one-commit"), room)
-    check_refused_growth(tally, "a recovery, and all behind", behind, row.recover, lambda *ran: is_right_recovery(row, *ran))
-    check_refused_growth(tally, "an audit, and all behind", behind, row.audit, lambda *ran: is_right_audit(row, *ran))
-    for name in REFUSED_ROWS:
-        row = Row(os.path.join(SMALL_ROWS, name), room)
-        check_refused_growth(tally, f"{name}, recovery", refuser, row.recover, lambda *ran: is_right_recovery(row, *ran))
-        piped = functools.partial(row.recover, is_piped=True)
-        check_refused_growth(tally, f"{name}, recovery in memory", refuser, piped, lambda *ran: is_right_recovery(row, *ran))
-        check_refused_growth(tally, f"{name}, audit", refuser, row.audit, lambda *ran: is_right_audit(row, *ran))
-        check_line(tally, room, refuser, name, "slow", "slow devices")
-        check_line(tally, room, behind, name, "each", "each record")
-    for what, row in (("in pieces", long_row(room)), ("in memory", long_row(room, base=LARGEST_BASE))):
-        check_refused_growth(tally, f"a long log, recovery {what}", refuser, row.recover, lambda *ran: is_right_recovery(row, *ran))
-
-
-# Documents: that the code, the links and the tables in them are true.
-
-def documents():
-    yield from ("README.md", "CONTRIBUTING.md", "CHANGELOG.md", "crates/rows/data/README.md")
-    yield from ("bench/NOTES.md", "examples/bank/README.md", "examples/own_log/README.md", "bindings/rust/README.md")
-    yield from (os.path.join("docs", name) for name in sorted(os.listdir(os.path.join(TOP, "docs"))) if name.endswith(".md"))
-
-
-def is_readme_code_tested():
-    """Whether each part of the code in README is in a file whose function the tests of its crate call."""
-    tested = text_of("crates/recovery_rows/src/in_memory.rt") + text_of("crates/journal_rows/src/tests/readme.rt")
-    shown = re.findall(r"```rust\n(.*?)```", text_of("README.md"), re.S)
-    return bool(shown) and all(part.strip() in tested for code in shown for part in code.split("\n\n"))
-
-
-def broken_links(document):
-    """The links of a document that lead to no file of this repository."""
-    targets = (target.partition("#")[0] for target in re.findall(r"\]\(([^)\s]+)\)", text_of(document)))
-    return [target for target in targets if target and not os.path.exists(os.path.join(TOP, os.path.dirname(document), target))]
-
-
-def faults_of_the_source():
-    """The number and the text of each fault, by its name."""
-    source = text_of("crates/page/src/fault.rt")
-    texts = {name: text for text, name in re.findall(r'#\[error\("([^"]*)"\)\]\s*(\w+)', source)}
-    return {name: (number, texts[name]) for name, number in re.findall(r"Fault::(\w+)(?:\(_\))? => (\d+)", source)}
-
-
-def faults_of_the_documents():
-    rows = re.findall(r"^\| (\d+) \| `(\w+)` \| ([^|]*) \|", text_of("docs/FORMATS.md"), re.M)
-    return {name: (number, text.replace("<n>", "{0}")) for number, name, text in rows}
-
-
-def check_documents(tally):
-    tally.say("README's code is tested", is_readme_code_tested())
-    for document in documents():
-        tally.say(f"links of {document}", not broken_links(document), broken_links(document))
-    tally.say("faults in docs/FORMATS.md", faults_of_the_documents() == faults_of_the_source())
-    listed = re.findall(r"^\| `([\w-]+)` \|", text_of("crates/rows/data/README.md").partition("## The rows")[2], re.M)
-    folders = [name for name in sorted(os.listdir(SMALL_ROWS)) if os.path.isdir(os.path.join(SMALL_ROWS, name))]
-    tally.say("rows in crates/rows/data/README.md", listed == folders, set(listed) ^ set(folders))
-
-
-def check_instructions(tally):
-    """Returns the lines that ask for a lower count to be kept, since among all others nobody sees them."""
-    ran = run([sys.executable, os.path.join(TOP, "bench/count.py")], text=True)
-    print(ran.stdout, end="")
-    tally.say("instructions of the workloads", ran.returncode == 0, ran.stderr)
-    return [line for line in ran.stdout.splitlines() if "KEEP" in line]
-
-
-def check_profile(tally):
-    """The first crate with the limits of another profile: its numbers keep what the proofs need."""
-    ran = run([sys.executable, os.path.join(TOP, "profiles/build.py"), "wide", "page"], text=True)
-    tally.say("page is proved with the wide profile", ran.returncode == 0, ran.stdout + ran.stderr)
-
-
-def check_files_of_another_profile(tally, room):
-    row, profiles = Row(os.path.join(SMALL_ROWS, "base-loser"), room), (Profile(PROFILE), Profile("profiles/wide.profile"))
-    for name, line in (("log", b"fault 6: bad log header\n"), ("store", b"fault 10: bad store header\n")):
-        path = os.path.join(room, f"wide {name}")
-        with open(path, "wb") as file:
-            file.write(in_profile(bytes_of(row.at(name)), *profiles))
-        tally.say(f"recovery of a {name} of the wide profile", has_refused(row.recover(**{name: path}), line) and row.is_nothing_out())
-        tally.say(f"audit of a {name} of the wide profile", has_refused(row.audit(**{name: path}), line))
+
+# What a check is called, where its function is, what that takes besides the tally, what has to be built for it, and what it looks for.
+Check = namedtuple("Check", "name module function takes needs looks_for")
+
+NOTHING, ROOM, C = "nothing", "a folder", "the library for C"
+CHECKS = [Check(*row) for row in (
+    ("documents", "documents", "check_documents", NOTHING, "", "links, README's code, tables of faults and rows"),
+    ("contracts", "contracts", "check_contracts", NOTHING, "", "docs/CONTRACTS.md, and what docs/PROOFS.md cites"),
+    ("clauses", "clauses", "check_clauses", NOTHING, "", "clauses that are too long"),
+    ("sizes", "sizes", "check_sizes", NOTHING, "", "numbers in place of the names of sizes"),
+    ("pages", "pages", "check_pages", NOTHING, "", "the man pages and --help"),
+    ("edits", "edits", "check_edits", NOTHING, "", "whether each edit can be applied"),
+    ("prose", "prose", "check_prose", NOTHING, "", "what readers stumble over"),
+    ("ways", "documents", "check_ways", NOTHING, "", "how many functions a job goes through"),
+    ("profile", "documents", "check_profile", NOTHING, "page", "the limits of another profile"),
+    ("instructions", "documents", "check_instructions", NOTHING, "aries_cli aries_dump workloads", "instructions of the workloads"),
+    ("large-rows", "recoveries", "check_large_rows", ROOM, "aries_cli", "rows of real size"),
+    ("long-logs", "long_logs", "check_long_logs", ROOM, "aries_cli", "logs that are read in two parts"),
+    ("version-2", "recoveries", "check_version_2", ROOM, "aries_cli", "the small rows as logs of version 2"),
+    ("threads", "recoveries", "check_threads", ROOM, "aries_cli", "how many threads are started"),
+    ("files", "recoveries", "check_files", ROOM, "aries_cli", "new files that are there already"),
+    ("other-profile", "recoveries", "check_files_of_another_profile", ROOM, "aries_cli", "files of another profile"),
+    ("missing-files", "recoveries", "check_missing_files", ROOM, "aries_cli", "files that are missing"),
+    ("words", "recoveries", "check_words", ROOM, "aries_cli", "command lines, right and wrong"),
+    ("operation", "operate", "check_operation", ROOM, "aries_cli", "--verbose, modes, syncs, limits"),
+    ("in-place", "in_place", "check_in_place", ROOM, "aries_cli", "in place: rows, kills, power cuts"),
+    ("found", "found", "check_found", ROOM, "aries_cli aries_dump", "in place: names, locks, what earlier runs left"),
+    ("engine", "engine", "check_engine", ROOM, "aries_cli engine", "an engine that is killed"),
+    ("pieces", "pieces", "check_pieces", ROOM, "aries_cli", "logs in memory and in pieces"),
+    ("order", "pieces", "check_order", ROOM, "aries_cli", "the order of faults"),
+    ("nothing-out", "pieces", "check_nothing_out", ROOM, "aries_cli", "what is left if a call fails"),
+    ("spoiled", "spoiled", "check_spoiled", ROOM, "aries_cli", "rows with another byte"),
+    ("borrow", "borrow", "check_borrow", ROOM, "wal", "views of a log that live too long"),
+    ("chosen", "chosen", "check_chosen", ROOM, "aries_cli", "audits of chosen numbers"),
+    ("prints", "recoveries", "check_prints", ROOM, "aries_cli", "prints that fail"),
+    ("refusals", "recoveries", "check_refusals", ROOM, "aries_cli rows", "growths of memory that are refused"),
+    ("dump", "dump", "check_dump", ROOM, "aries_dump", "aries_dump"),
+    ("c-names", "embed", "names_of_c", C, "", "the header in each language"),
+    ("c-header", "embed", "header", C, "library", "every call of the header"),
+    ("c-refusals", "embed", "refusals", C, "library", "growths of memory that are refused"),
+    ("c-journal", "embed", "journal", C, "library", "a journal that crashes"),
+    ("c-marks", "embed", "marks", C, "library", "logs record by record"),
+    ("c-rows", "embed", "rows", C, "library", "the worked rows"),
+    ("c-files", "embed", "files", C, "library", "files that survive a power cut"),
+    ("c-bank", "embed", "bank", C, "library", "a bank that is killed"),
+    ("c-own-log", "embed", "own_log", C, "library", "a store with a log of its own"),
+    ("c-installed", "embed", "installed", C, "library", "what install.sh installs"),
+    ("c-rust", "embed", "wrapper", C, "library", "the wrapper in Rust"),
+)]
+TOP = os.path.dirname(os.path.dirname(os.path.abspath(__file__)))
+
+
+def asked_for():
+    parser = argparse.ArgumentParser(description="runs the checks of the programs, of the library for C, and of the documents")
+    parser.add_argument("--list", action="store_true", help="print the names of the checks")
+    parser.add_argument("--program", metavar="FILE", help="the program `aries`, in place of the proved one")
+    parser.add_argument("--dump", metavar="FILE", help="the program `aries_dump`, in place of the proved one")
+    parser.add_argument("--library", metavar="FOLDER", help="the folder of libaries_c.a, in place of building it")
+    parser.add_argument("--backend", choices=("llvm", "rattle", "both"), default="both", help="what builds the library")
+    parser.add_argument("--kills", type=int, default=30, metavar="N", help="how often the bank is killed")
+    parser.add_argument("names", nargs="*", metavar="NAME", help="checks, or what their names begin with")
+    return parser.parse_args()
+
+
+def chosen(names):
+    """The checks of these names, or all."""
+    wrong = [name for name in names if not any(is_named(check, name) for check in CHECKS)]
+    if wrong:
+        sys.exit(f"no check is called {', '.join(wrong)}: see tests/run.py --list")
+    return [check for check in CHECKS if not names or any(is_named(check, name) for name in names)]
+
+
+def is_named(check, name):
+    return check.name == name or check.name.startswith(f"{name}-")
+
+
+def missing_of(check, asked):
+    """What is not built that the check needs."""
+    given = {"aries_cli": asked.program, "aries_dump": asked.dump, "library": asked.library}
+    return [need for need in check.needs.split() if not (given.get(need) or is_built(need))]
+
+
+def is_built(need):
+    crate = {"library": "aries_c"}.get(need, need)
+    out = os.path.join(TOP, "crates", crate, "out")
+    return any(os.path.exists(os.path.join(out, made)) for made in (crate, f"rlib/{crate}.rlib", f"lib{crate}.a"))
+
+
+def make(check, tally, room, embedded):
+    """Makes a check, and says how long it took. One that ends with an exception has failed."""
+    begin, before = time.monotonic(), tally.passed + tally.failed
+    try:
+        function = getattr(importlib.import_module(check.module), check.function)
+        more = {NOTHING: (), ROOM: (room,), C: (embedded,)}[check.takes]
+        function(tally, *more)
+    except Exception as error:  # the other checks are still made
+        tally.say(check.name, False, repr(error))
+    print(f"-- {check.name}: {tally.passed + tally.failed - before} in {time.monotonic() - begin:.1f} s", flush=True)
+
+
+def run_all(checks, asked, tally, room):
+    from embed import Embedded
+    is_own = asked.program or asked.dump or asked.library or asked.names
+    embedded = Embedded(os.path.join(room, "c"), asked.library, asked.backend, asked.kills) if any(check.takes == C for check in checks) else None
+    for check in checks:
+        missing = missing_of(check, asked)
+        if missing and not is_own:
+            sys.exit(f"{', '.join(missing)} is missing, which {check.name} needs: rt ci builds it")
+        if missing:
+            tally.skip(check.name, f"since {', '.join(missing)} is not built")
+        else:
+            make(check, tally, room, embedded)
 
 
 def main():
-    for program in (ARIES, ENGINE, ROW_RUNNER):
-        if not os.path.exists(program):
-            sys.exit(f"{program} is missing: `rt ci` builds it")
+    asked = asked_for()
+    checks = chosen(asked.names)
+    if asked.list:
+        for check in checks:
+            print(f"{check.name:14} {check.looks_for}")
+        return
+    # The modules take the programs' paths when they are imported.
+    for crate, path in (("aries_cli", asked.program), ("aries_dump", asked.dump)):
+        if path:
+            os.environ[f"PROGRAM_OF_{crate}"] = os.path.abspath(path)
+    from program import Tally
     tally = Tally()
-    check_documents(tally)
-    check_contracts(tally)
-    check_clauses(tally)
-    check_sizes(tally)
-    check_pages(tally)
-    check_edits(tally)
-    ways = run([sys.executable, os.path.join(TOP, "bench/way.py")])
-    tally.say("no way through the crates is longer than it is to be", ways.returncode == 0, ways.stdout)
-    check_profile(tally)
-    asked = check_prose(tally) + check_instructions(tally)
     with tempfile.TemporaryDirectory(prefix="aries-tests-") as room:
-        check_large_rows(tally, room)
-        check_long_logs(tally, room)
-        check_version_2(tally, room)
-        check_threads(tally, room)
-        check_files(tally, room)
-        check_files_of_another_profile(tally, room)
-        check_missing_files(tally, room)
-        check_words(tally, room)
-        check_operation(tally, room)
-        check_in_place(tally, room)
-        check_found(tally, room)
-        check_engine(tally, room)
-        check_pieces(tally, room)
-        check_order(tally, room, library_of(room, "watch_calls"))
-        check_nothing_out(tally, room, library_of(room, "watch_calls"))
-        check_spoiled(tally, room)
-        check_borrow(tally, room)
-        check_chosen(tally, room)
-        check_prints(tally, room)
-        check_refusals(tally, room)
-        check_dump(tally, room, Refuser(room))
-    print(*asked, f"{tally.passed} passed, {tally.failed} failed", sep="\n")
+        run_all(checks, asked, tally, room)
+    print(*tally.asked, tally, sep="\n")
     sys.exit(1 if tally.failed else 0)
 
 
