@@ -4,7 +4,7 @@
 usage: tests/clauses.py [CRATE..]   at the top of the repository: each long clause of these crates, or of those that are counted
        tests/run.py                 fails if a crate has more of them than are kept here
 
-The numbers kept may only fall, unless such a call is new. What is left in `recovery` are the public calls over four or five devices: a clause that names both sinks
+The numbers kept may only fall, unless such a call is new; the crates of tests are not counted. What is left in `recovery` are the public calls over four or five devices: a clause that names both sinks
 before and after the call is longer than that by their names alone. So it is in `aries_c` with the calls of a journal, over four arrays.
 """
 import glob
@@ -16,7 +16,9 @@ sys.dont_write_bytecode = True  # no folder of it beside the tests
 from program import TOP, text_of
 
 LONGEST = 100
-KEPT = {"recovery": 49, "restart": 0, "undo": 0, "aries_c": 15}
+KEPT = {"analysis": 38, "aries": 0, "aries_c": 15, "aries_cli": 0, "aries_dump": 0, "audit": 48, "board": 13, "changes": 21, "command": 10, "cursor": 0,
+        "device": 14, "dump": 26, "dump_command": 5, "job_files": 0, "journal": 141, "journal_recovery": 2, "page": 9, "passes": 125, "pieces": 8,
+        "recovery": 49, "redo": 72, "restart": 0, "tables": 0, "undo": 0, "wal": 12, "words": 1}
 
 
 def end_of(text, at):
