@@ -159,6 +159,7 @@ CUTS = {
         analysis/scan.rt:prepared wal/field.rt:put_entries wal/field.rt:put_dirties wal/field.rt:entry_bytes
         wal/field.rt:put_dirty wal/field.rt:dirty_bytes wal/field.rt:state_code''',
     'a small store': 'recovery/large_store.rt recovery/large_copying.rt',
+    'a large store': 'recovery/copying.rt:recover_copying recovery/by_pieces.rt:recover_by_pieces recovery/log_again.rt:read_store_first',
     'a recovery': 'aries/files.rt:audit_files aries/files.rt:read_file aries/program.rt:run_audit command/job.rt:audit_job',
     'new files': '''aries/in_place.rt aries/names.rt aries/left.rt aries/new_tail.rt recovery/in_place.rt recovery/tail_file.rt
         aries/program.rt:name_and_run aries/program.rt:text_of LogBytes::sum_of_end LogBytes::torn_of LogBytes::sum''',
@@ -186,6 +187,8 @@ FEW = ['nothing fails', 'no checkpoint', 'updates and commits alone are read']
 WAYS = [
     ('recover, 3 records', 313, 'aries_cli/main.rt:main', FEW + ['a recovery', 'a small store', 'new files', 'in pieces', 'one worker']),
     ('recover in place, 3 records', 356, 'aries_cli/main.rt:main', FEW + ['a recovery', 'a small store', 'in place', 'in pieces', 'one worker']),
+    ('recover, a large store', 317, 'aries_cli/main.rt:main', FEW + ['a recovery', 'a large store', 'new files', 'in pieces', 'one worker']),
+    ('recover in place, a large store', 360, 'aries_cli/main.rt:main', FEW + ['a recovery', 'a large store', 'in place', 'in pieces', 'one worker']),
     ('recover in memory, 3 records, 1 worker', 283, 'aries_cli/main.rt:main', FEW + ['a recovery', 'a small store', 'new files', 'in memory', 'one worker']),
     ('recover in memory, 3 records, 4 workers', 318, 'aries_cli/main.rt:main',
      FEW + ['a recovery', 'a small store', 'new files', 'in memory', 'several workers', 'a short log']),
