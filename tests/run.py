@@ -101,9 +101,10 @@ def missing_of(check, asked):
 
 
 def is_built(need):
-    crate = {"library": "aries_c"}.get(need, need)
+    """Whether a program or a library of Rattle is there. That for C is built of those that its crate names."""
+    crate = {"library": "recovery"}.get(need, need)
     out = os.path.join(TOP, "crates", crate, "out")
-    return any(os.path.exists(os.path.join(out, made)) for made in (crate, f"rlib/{crate}.rlib", f"lib{crate}.a"))
+    return any(os.path.exists(os.path.join(out, made)) for made in (crate, f"rlib/{crate}.rlib"))
 
 
 def make(check, tally, room, embedded):
