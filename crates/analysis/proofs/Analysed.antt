@@ -1,16 +1,16 @@
 -- Analysis of a lawful log: what is true at the checkpoint, and then record by record.
 use Rattle.std.proofs.Common.{ℕ, suc, ◌≡◌, ◌≤◌, Bool, true, false, cond, ◌||◌, not, List, [], ◌∷◌, Option, Some, None, refl, sym, ap, ap₂, ◌∙◌, subst, inl, inr, eqb-true, eqb, ltb}
 use Rattle.std.proofs.lemmas.Bool.{cases_Bool, or_parts, or_left, or_right, both_ways, and_right, and_left, ltb-false, and_from, not_from_false, not_from_true}
-use Rattle.wal.proofs.Histories.{last_other}
-use Rattle.wal.specs.declared.record.State.TheVariants.{Active}
-use Rattle.wal.specs.Records.{TableEntry, LogRecord, Update, Compensation, Commit, Abort, End, Prepare, History, start, ◌▸◌, last_lsn, first}
-use Rattle.wal.specs.Meaning.{BasePages, state_by, state_at, is_of, is_abort_of, is_prepare_of, has, aborted, prepared, committed, ended, finished, is_unfinished, last_of, undo_next_of}
-use Rattle.wal.specs.Laws.{IsLawful, Obeys}
-use Rattle.wal.specs.Checkpoint.{true_entry}
+use Rattle.log_laws.proofs.Histories.{last_other}
+use Rattle.log_laws.specs.declared.state.State.TheVariants.{Active}
+use Rattle.log_laws.specs.Records.{TableEntry, LogRecord, Update, Compensation, Commit, Abort, End, Prepare, History, start, ◌▸◌, last_lsn, first}
+use Rattle.log_laws.specs.Meaning.{BasePages, state_by, state_at, is_of, is_abort_of, is_prepare_of, has, aborted, prepared, committed, ended, finished, is_unfinished, last_of, undo_next_of}
+use Rattle.log_laws.specs.Laws.{IsLawful, Obeys}
+use Rattle.log_laws.specs.Checkpoint.{true_entry}
 use Rattle.analysis.specs.Tables.{finishes, work_since, finished_since, undo_next_in, told_in, is_aborting, state_in_work, entry_by, base_since, analysed_entry}
 use Rattle.tables.specs.Lawful.{unfinished_entry}
 use Rattle.analysis.proofs.Scanned.{state_by-state}
-use Rattle.wal.specs.Undo.{is_prepared}
+use Rattle.log_laws.specs.Undo.{is_prepared}
 
 -- the last of the work, otherwise the base's
 abbrev last_in_work : List (ℕ × LogRecord) → Option TableEntry → ℕ

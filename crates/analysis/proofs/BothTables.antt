@@ -5,9 +5,9 @@ use Rattle.std.specs.Map.{keys_of}
 use Rattle.std.specs.Ordering.{nat_cmp}
 use Rattle.wal.specs.declared.record.Entry.{Entry}
 use Rattle.wal.specs.Content.{entry_of}
-use Rattle.wal.specs.Records.{History, LogContent, history, last_lsn, base_lsn}
-use Rattle.wal.specs.Redo.{rec_lsn_of}
-use Rattle.wal.specs.Undo.{entry_for}
+use Rattle.log_laws.specs.Records.{History, LogContent, history, last_lsn, base_lsn}
+use Rattle.log_laws.specs.Redo.{rec_lsn_of}
+use Rattle.log_laws.specs.Undo.{entry_for}
 use Rattle.analysis.specs.Tables.{entry_at, redo_lsn_of, IsBase, AreTablesOf}
 use Rattle.analysis.specs.Passing.{SeenTables, HasAnalysed, ComesBefore}
 use Rattle.analysis.proofs.Scanned.{entry_none, rec_lsn_none}

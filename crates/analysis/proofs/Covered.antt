@@ -1,14 +1,14 @@
 -- Redo by the tables that analysis finds skips nothing.
 use Rattle.std.proofs.Common.{ℕ, suc, ◌≡◌, ◌<◌, ◌≤◌, true, cond, ◌&&◌, List, [], ◌∷◌, Option, Some, None, refl, sym, ap, ◌∙◌, subst, inl, inr, arith, eqb-true, eqb, leb}
 use Rattle.std.proofs.lemmas.Bool.{cases_Bool, cases_lt, and_from, and_parts, leb-true, le-leb}
-use Rattle.wal.specs.Records.{LogRecord, History, start, ◌▸◌, last_lsn, record_at, base_lsn}
-use Rattle.wal.specs.Meaning.{is_on}
-use Rattle.wal.specs.Redo.{rec_lsn_of}
-use Rattle.wal.specs.Checkpoint.{or_else, DirtyLaw}
+use Rattle.log_laws.specs.Records.{LogRecord, History, start, ◌▸◌, last_lsn, record_at, base_lsn}
+use Rattle.log_laws.specs.Meaning.{is_on}
+use Rattle.log_laws.specs.Redo.{rec_lsn_of}
+use Rattle.log_laws.specs.Checkpoint.{or_else, DirtyLaw}
 use Rattle.analysis.specs.Tables.{first_behind, analysed_rec_lsn, redo_lsn_of}
-use Rattle.wal.specs.Theorems.{IsReached}
+use Rattle.log_laws.specs.Theorems.{IsReached}
 use Rattle.analysis.proofs.Smallest.{not_below}
-use Rattle.wal.proofs.Histories.{base_within}
+use Rattle.log_laws.proofs.Histories.{base_within}
 
 -- the first record after m is no later than any
 abbrev Behind : ℕ → ℕ → Option ℕ → Type 0

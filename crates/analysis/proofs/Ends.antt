@@ -1,10 +1,10 @@
 -- The tables of a checkpoint in a log that goes by in pieces.
 use Rattle.std.proofs.Common.{ℕ, suc, ◌≡◌, ◌≤◌, ◌<◌, ◌+◌, Bool, true, false, ◌||◌, cond, eqb, eq-eqb, leb, ltb, ◌&&◌, List, [], ◌∷◌, Option, Some, None, refl, sym, ap, ap₂, ◌∙◌, arith, inl, inr, max}
 use Rattle.std.proofs.lemmas.Bool.{cases_Bool, cases_eq, ltb-true, ltb-false, le-leb}
-use Rattle.wal.specs.Records.{TableEntry, LogRecord, CheckpointEnd, History, start, ◌▸◌, ◌▸▸◌, LogContent, history, last_lsn, base_lsn, record_at, first}
-use Rattle.wal.specs.Checkpoint.{or_else, first_end, is_begin, checkpoint_at}
-use Rattle.wal.proofs.Histories.{base_of_log, base_after, record_in_front, record_none, size_of_first, size_of_first_le, first_base}
-use Rattle.wal.proofs.Checkpoints.{first_end_none, first_end_after, begin_above, checkpoint_begins, checkpoint_ends, checkpoint_there, checkpoint_within}
+use Rattle.log_laws.specs.Records.{TableEntry, LogRecord, CheckpointEnd, History, start, ◌▸◌, ◌▸▸◌, LogContent, history, last_lsn, base_lsn, record_at, first}
+use Rattle.log_laws.specs.Checkpoint.{or_else, first_end, is_begin, checkpoint_at}
+use Rattle.log_laws.proofs.Histories.{base_of_log, base_after, record_in_front, record_none, size_of_first, size_of_first_le, first_base}
+use Rattle.log_laws.proofs.Checkpoints.{first_end_none, first_end_after, begin_above, checkpoint_begins, checkpoint_ends, checkpoint_there, checkpoint_within}
 use Rattle.analysis.specs.Tables.{base_of}
 use Rattle.analysis.proofs.Scanned.{or_else-assoc}
 use Rattle.analysis.proofs.Truth.{base_is}

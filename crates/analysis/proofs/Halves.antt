@@ -1,7 +1,7 @@
 -- The tables of both halves.
 use Rattle.std.proofs.Common.{ℕ, List, sym, ap, ◌∙◌}
-use Rattle.wal.specs.Records.{TableEntry, LogContent, history}
-use Rattle.wal.specs.Redo.{rec_lsn_of}
+use Rattle.log_laws.specs.Records.{TableEntry, LogContent, history}
+use Rattle.log_laws.specs.Redo.{rec_lsn_of}
 use Rattle.tables.specs.Tables.{TablesContent}
 use Rattle.analysis.specs.Tables.{AreTablesOf, AreTransactionsOf, AreDirtyPagesOf, analysed_rec_lsn, tables_with}
 use Rattle.analysis.proofs.Truth.{pair_is}

@@ -4,7 +4,7 @@ use Rattle.std.proofs.lemmas.Bool.{cases_eq}
 use Rattle.std.proofs.lemmas.List.{get_or-set_same, get_or-set_other}
 use Rattle.std.proofs.Math.Nat.{mod-lt}
 use Rattle.std.proofs.lemmas.Option.{same_Some}
-use Rattle.wal.specs.Records.{TableEntry}
+use Rattle.log_laws.specs.Records.{TableEntry}
 use Rattle.wal.specs.declared.record.Entry.{Entry}
 use Rattle.wal.specs.Content.{entry_of}
 use Rattle.analysis.specs.Tables.{entry_at}

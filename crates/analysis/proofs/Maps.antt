@@ -1,15 +1,15 @@
 -- Maps from numbers, read key by key.
 use Rattle.std.proofs.Common.{ℕ, zero, suc, ◌≡◌, ◌<◌, ◌≤◌, Bool, true, false, cond, eqb, ltb, eq-eqb, eqb-true, ◌+◌, List, ◌∷◌, length, drop, get_or, set, replicate, drop-cons, Option, Some, None, refl, sym, ap, ap₂, ◌∙◌, arith, inl, inr}
 use Rattle.std.specs.Prelude.{option_map, is_some}
-use Rattle.wal.specs.Records.{TableEntry, LogRecord}
+use Rattle.log_laws.specs.Records.{TableEntry, LogRecord}
 use Rattle.std.specs.Ordering.{is_eq, nat_cmp}
 use Rattle.std.specs.Map.{lookup}
 use Rattle.std.proofs.lemmas.Bool.{cases_Bool, ltb-true, ltb-false}
 use Rattle.wal.specs.declared.record.Entry.{Entry}
 use Rattle.wal.specs.Content.{entry_of}
-use Rattle.wal.specs.Redo.{rec_lsn_of}
-use Rattle.wal.specs.Checkpoint.{or_else}
-use Rattle.wal.specs.Undo.{entry_for}
+use Rattle.log_laws.specs.Redo.{rec_lsn_of}
+use Rattle.log_laws.specs.Checkpoint.{or_else}
+use Rattle.log_laws.specs.Undo.{entry_for}
 use Rattle.wal.proofs.Entries.{is_eq-nat_cmp, entry_for-lookup}
 use Rattle.std.proofs.lemmas.List.{get_or-set_other}
 use Rattle.tables.proofs.Lookups.{rec_lsn_of-lookup}

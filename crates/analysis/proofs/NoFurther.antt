@@ -2,13 +2,12 @@
 use Rattle.std.proofs.Common.{ℕ, suc, ◌≡◌, ◌≢◌, ◌+◌, ◌<◌, ◌≤◌, ◌⊎◌, inl, inr, Bool, true, false, cond, eqb, ltb, eqb-true, eq-eqb, List, [], ◌∷◌, length, map, Option, Some, None, refl, sym, ap, ◌∙◌, arith, min, max}
 use Rattle.std.specs.Prelude.{is_some}
 use Rattle.std.proofs.lemmas.Bool.{cases_Bool, ltb-true, ltb-false}
-use Rattle.wal.specs.Records.{LogRecord, History, start, ◌▸◌, LogContent, TableEntry, history, last_lsn, base_lsn, record_at, first, page_in}
-use Rattle.wal.specs.Meaning.{Change, change_of, is_on}
-use Rattle.wal.specs.Redo.{rec_lsn_of}
-use Rattle.wal.specs.Checkpoint.{or_else}
-use Rattle.wal.specs.Spelling.{IsRising}
-use Rattle.wal.proofs.Histories.{first_all, first_older, record_last, record_more}
-use Rattle.wal.proofs.Rising.{RisesFrom, rises_rising, rising_from_0}
+use Rattle.log_laws.specs.Records.{LogRecord, History, start, ◌▸◌, LogContent, TableEntry, history, last_lsn, base_lsn, record_at, first, page_in}
+use Rattle.log_laws.specs.Meaning.{Change, change_of, is_on}
+use Rattle.log_laws.specs.Redo.{rec_lsn_of}
+use Rattle.log_laws.specs.Checkpoint.{or_else, IsRising}
+use Rattle.log_laws.proofs.Histories.{first_all, first_older, record_last, record_more}
+use Rattle.log_laws.proofs.Rising.{RisesFrom, rises_rising, rising_from_0}
 use Rattle.analysis.specs.Tables.{base_of, analysed_rec_lsn, redo_lsn_of, AreAllListed, ServesRedo}
 use Rattle.analysis.specs.Steps.{rec_lsn_after}
 use Rattle.analysis.proofs.Maps.{listed_stays}

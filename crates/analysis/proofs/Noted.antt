@@ -2,9 +2,9 @@
 use Rattle.std.proofs.Common.{ℕ, ◌≡◌, ◌+◌, ◌≤◌, ◌<◌, max, None, sym, ap, ◌∙◌, arith}
 use Rattle.wal.specs.declared.glance.Glance.{Glance}
 use Rattle.wal.specs.Glances.{IsGlanceBehind, glance_of}
-use Rattle.wal.specs.Records.{LogRecord, History, LogContent, ◌▸▸◌, history, last_lsn, base_lsn, first}
-use Rattle.wal.specs.Redo.{rec_lsn_of}
-use Rattle.wal.proofs.Histories.{size_of_first, size_of_first_le, first_all, base_of_first}
+use Rattle.log_laws.specs.Records.{LogRecord, History, LogContent, ◌▸▸◌, history, last_lsn, base_lsn, first}
+use Rattle.log_laws.specs.Redo.{rec_lsn_of}
+use Rattle.log_laws.proofs.Histories.{size_of_first, size_of_first_le, first_all, base_of_first}
 use Rattle.analysis.specs.Tables.{entry_at, analysed_entry, analysed_rec_lsn}
 use Rattle.analysis.specs.Steps.{entry_after, entry_seen, rec_lsn_after}
 use Rattle.analysis.specs.Passing.{SeenTables, HasAnalysed}

@@ -1,10 +1,10 @@
 -- No record and no checkpoint names transaction 0, so it is never listed.
 use Rattle.std.proofs.Common.{ℕ, ◌≡◌, ne_eqb, List, [], ◌∷◌, None, refl, arith}
 use Rattle.std.specs.List.{AllByRecursion}
-use Rattle.wal.specs.Records.{TableEntry, LogRecord, CheckpointBegin, CheckpointEnd}
+use Rattle.log_laws.specs.Records.{TableEntry, LogRecord, CheckpointBegin, CheckpointEnd}
 use Rattle.wal.specs.Spelling.{FitsEntry, Fits}
-use Rattle.wal.specs.Tail.{tx_of}
-use Rattle.wal.specs.Undo.{entry_for}
+use Rattle.log_laws.specs.Tail.{tx_of}
+use Rattle.log_laws.specs.Undo.{entry_for}
 use Rattle.analysis.specs.Steps.{entry_after}
 
 -- in the table of a checkpoint

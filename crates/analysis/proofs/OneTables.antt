@@ -1,8 +1,8 @@
 -- Two tables of one log are the same: their numbers ascend, and each number has the same entry in both.
 use Rattle.std.proofs.Common.{◌≡◌, ℕ, List, sym, ap, ap₂, ◌∙◌, suc}
-use Rattle.wal.specs.Records.{TableEntry, history, base_lsn}
-use Rattle.wal.specs.Redo.{rec_lsn_of}
-use Rattle.wal.specs.Undo.{entry_for}
+use Rattle.log_laws.specs.Records.{TableEntry, history, base_lsn}
+use Rattle.log_laws.specs.Redo.{rec_lsn_of}
+use Rattle.log_laws.specs.Undo.{entry_for}
 use Rattle.wal.proofs.Entries.{same_table}
 use Rattle.analysis.specs.Tables.{analysed_entry, analysed_rec_lsn, redo_lsn_of, OneTables}
 use Rattle.analysis.proofs.Truth.{pair_is}

@@ -1,8 +1,8 @@
 -- More records, looked at with what was found in those before them.
 use Rattle.std.proofs.Common.{ℕ, suc, ◌≡◌, ltb, List, [], ◌∷◌, Option, refl, sym, ap, ap₂, ◌∙◌, arith, inl, inr}
 use Rattle.std.proofs.lemmas.Bool.{cases_Bool, ltb-true, ltb-false}
-use Rattle.wal.specs.Records.{TableEntry, LogRecord, History, start, ◌▸◌, ◌▸▸◌, LogContent, history, last_lsn, base_lsn}
-use Rattle.wal.proofs.Histories.{base_of_log}
+use Rattle.log_laws.specs.Records.{TableEntry, LogRecord, History, start, ◌▸◌, ◌▸▸◌, LogContent, history, last_lsn, base_lsn}
+use Rattle.log_laws.proofs.Histories.{base_of_log}
 use Rattle.analysis.specs.Tables.{analysed_entry, analysed_rec_lsn}
 use Rattle.analysis.specs.Steps.{entry_after, rec_lsn_after}
 use Rattle.analysis.specs.Passing.{EntriesGoOn, RecLsnsGoOn}

@@ -7,11 +7,11 @@ use Rattle.std.specs.Map.{keys_of}
 use Rattle.std.specs.Ordering.{nat_cmp}
 use Rattle.wal.specs.declared.record.Entry.{Entry}
 use Rattle.wal.specs.Content.{entry_of}
-use Rattle.wal.specs.Records.{TableEntry, tx_in, page_in}
-use Rattle.wal.specs.Redo.{rec_lsn_of}
-use Rattle.wal.specs.Spelling.{IsRising}
+use Rattle.log_laws.specs.Records.{TableEntry, tx_in, page_in}
+use Rattle.log_laws.specs.Redo.{rec_lsn_of}
+use Rattle.log_laws.specs.Checkpoint.{IsRising}
 use Rattle.wal.proofs.Entries.{Rise}
-use Rattle.wal.proofs.Rising.{RisesFrom, rising_from_0}
+use Rattle.log_laws.proofs.Rising.{RisesFrom, rising_from_0}
 
 -- keys in order ascend
 sorted_rising : (ns : List ℕ) → IsStrictlySortedBy nat_cmp ns → IsRising ns

@@ -1,17 +1,17 @@
 -- One more record, looked at.
 use Rattle.std.proofs.Common.{ℕ, suc, ◌≡◌, ◌+◌, ◌≤◌, Bool, true, false, ◌||◌, cond, eqb, ltb, leb, List, [], ◌∷◌, Option, Some, None, refl, sym, ap, ap₂, ◌∙◌, arith, inl, inr, max}
 use Rattle.std.proofs.lemmas.Bool.{cases_Bool, le-ltb, lt-ltb, le-leb, lt-leb}
-use Rattle.wal.specs.declared.record.State.{State}
-use Rattle.wal.specs.declared.record.State.TheVariants.{Active, Prepared, Aborting}
-use Rattle.wal.specs.Records.{TableEntry, LogRecord, Update, Abort, Prepare, CheckpointBegin, CheckpointEnd, History, start, ◌▸◌, first, last_lsn, base_lsn}
-use Rattle.wal.specs.Meaning.{state_by, is_of, is_abort_of, is_prepare_of, is_on}
-use Rattle.wal.specs.Undo.{is_prepared}
-use Rattle.wal.specs.Checkpoint.{or_else}
+use Rattle.log_laws.specs.declared.state.State.{State}
+use Rattle.log_laws.specs.declared.state.State.TheVariants.{Active, Prepared, Aborting}
+use Rattle.log_laws.specs.Records.{TableEntry, LogRecord, Update, Abort, Prepare, CheckpointBegin, CheckpointEnd, History, start, ◌▸◌, first, last_lsn, base_lsn}
+use Rattle.log_laws.specs.Meaning.{state_by, is_of, is_abort_of, is_prepare_of, is_on}
+use Rattle.log_laws.specs.Undo.{is_prepared}
+use Rattle.log_laws.specs.Checkpoint.{or_else}
 use Rattle.analysis.specs.Tables.{work_since, finished_since, base_since, undo_next_in, told_in, is_aborting, state_in_work, entry_by, analysed_entry, first_behind, analysed_rec_lsn}
 use Rattle.analysis.specs.Steps.{prepared_from, state_in, undo_next_of_entry, entry_after, rec_lsn_after, entry_seen}
 use Rattle.wal.specs.declared.glance.Glance.{Glance}
 use Rattle.wal.specs.Glances.{glance_of}
-use Rattle.wal.proofs.Histories.{base_within, size_of_first_le, base_of_first}
+use Rattle.log_laws.proofs.Histories.{base_within, size_of_first_le, base_of_first}
 
 -- what the entry has as state and undo-next
 pub state_by-state : (s : State) → state_by (is_aborting s) (is_prepared s) ≡ s

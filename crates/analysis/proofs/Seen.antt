@@ -4,9 +4,9 @@ use Rattle.std.specs.Prelude.{is_some, option_map, IfSome, IfNone}
 use Rattle.std.specs.BTreeMap.{BTreeMap}
 use Rattle.std.proofs.lemmas.Bool.{or_parts}
 use Rattle.wal.specs.declared.record.Entry.{Entry}
-use Rattle.wal.specs.Records.{LogRecord, History, ◌▸▸◌, LogContent, history, last_lsn, base_lsn, record_at}
-use Rattle.wal.specs.Redo.{rec_lsn_of}
-use Rattle.wal.specs.Checkpoint.{first_end, is_begin}
+use Rattle.log_laws.specs.Records.{LogRecord, History, ◌▸▸◌, LogContent, history, last_lsn, base_lsn, record_at}
+use Rattle.log_laws.specs.Redo.{rec_lsn_of}
+use Rattle.log_laws.specs.Checkpoint.{first_end, is_begin}
 use Rattle.analysis.specs.Tables.{base_of, entry_at, IsBase}
 use Rattle.analysis.specs.Passing.{CheckpointSoFar, HasSeen, IsEnd}
 use Rattle.analysis.proofs.Truth.{base_is}

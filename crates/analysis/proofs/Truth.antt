@@ -4,17 +4,17 @@ use Rattle.std.specs.Prelude.{All}
 use Rattle.std.proofs.lemmas.Bool.{cases_eq}
 use Rattle.page.specs.declared.page.Page.{Page}
 use Rattle.page.specs.Store.{StoreContent}
-use Rattle.wal.specs.Meaning.{BasePages}
-use Rattle.wal.specs.Records.{TableEntry, LogRecord, History, LogContent, history, last_lsn, record_at, first}
-use Rattle.wal.specs.Redo.{rec_lsn_of}
-use Rattle.wal.specs.Checkpoint.{checkpoint_at, true_table, DirtyLaw, CheckpointLaw}
-use Rattle.wal.specs.Store.{Lawful}
-use Rattle.wal.proofs.Histories.{record_none, first_none}
-use Rattle.wal.proofs.Checkpoints.{checkpoint_within}
-use Rattle.wal.proofs.Undone.{true_entry_for}
+use Rattle.log_laws.specs.Meaning.{BasePages}
+use Rattle.log_laws.specs.Records.{TableEntry, LogRecord, History, LogContent, history, last_lsn, record_at, first}
+use Rattle.log_laws.specs.Redo.{rec_lsn_of}
+use Rattle.log_laws.specs.Checkpoint.{checkpoint_at, true_table, DirtyLaw, CheckpointLaw}
+use Rattle.log_laws.specs.Store.{Lawful}
+use Rattle.log_laws.proofs.Histories.{record_none, first_none}
+use Rattle.log_laws.proofs.Checkpoints.{checkpoint_within}
+use Rattle.log_laws.proofs.Undone.{true_entry_for}
 use Rattle.wal.proofs.Entries.{same_table, true_table_rises}
-use Rattle.wal.specs.Undo.{entry_for}
-use Rattle.wal.specs.Theorems.{IsReached}
+use Rattle.log_laws.specs.Undo.{entry_for}
+use Rattle.log_laws.specs.Theorems.{IsReached}
 use Rattle.tables.specs.Tables.{TablesContent}
 use Rattle.analysis.specs.Tables.{base_of, analysed_entry, AreTablesOf}
 use Rattle.tables.specs.Lawful.{unfinished_entry, AreTrue}

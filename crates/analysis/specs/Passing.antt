@@ -1,10 +1,10 @@
 -- PASSING. Analysis of a log that is read in pieces: each piece is a log, whose base LSN is the last LSN of what was read before it (own).
 use Rattle.std.specs.Prelude.{◌≡◌, ◌≤◌, ◌⊎◌, ℕ, Bool, List, Option, Some, None, IfSome}
 use Rattle.wal.specs.declared.record.Entry.{Entry}
-use Rattle.wal.specs.Records.{TableEntry, LogRecord, History, start, ◌▸▸◌, last_lsn, base_lsn, record_at}
-use Rattle.wal.specs.Checkpoint.{first_end, is_begin}
-use Rattle.wal.specs.Redo.{rec_lsn_of}
-use Rattle.wal.specs.Undo.{entry_for}
+use Rattle.log_laws.specs.Records.{TableEntry, LogRecord, History, start, ◌▸▸◌, last_lsn, base_lsn, record_at}
+use Rattle.log_laws.specs.Checkpoint.{first_end, is_begin}
+use Rattle.log_laws.specs.Redo.{rec_lsn_of}
+use Rattle.log_laws.specs.Undo.{entry_for}
 use Rattle.analysis.specs.Tables.{analysed_entry, analysed_rec_lsn, base_of, entry_at, IsBase}
 
 -- THE LAWS OF CONTINUED READING. What analysis finds in a log with more records after it is what it finds in these records only, if it

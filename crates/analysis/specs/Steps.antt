@@ -1,15 +1,15 @@
 -- What one more record does to the tables (ARIES section 6.1, the analysis pass).
 use Rattle.std.specs.Prelude.{◌≡◌, ℕ, ◌%◌, ◌<◌, ◌^◌, nat_lt, ◌||◌, Bool, true, false, List, slice_index_or, Option, Some, None, is_some, ◌==◌, if◌then◌else◌, ◌≢◌}
 use Rattle.std.specs.List.{filter_map}
-use Rattle.wal.specs.declared.record.State.{State}
-use Rattle.wal.specs.declared.record.State.TheVariants.{Active, Prepared, Aborting}
-use Rattle.wal.specs.Records.{TableEntry, LogRecord, Update, Compensation, Commit, Abort, End, Prepare}
+use Rattle.log_laws.specs.declared.state.State.{State}
+use Rattle.log_laws.specs.declared.state.State.TheVariants.{Active, Prepared, Aborting}
+use Rattle.log_laws.specs.Records.{TableEntry, LogRecord, Update, Compensation, Commit, Abort, End, Prepare}
 use Rattle.wal.specs.declared.glance.Glance.{Glance}
 use Rattle.wal.specs.declared.glance.Glance.TheVariants as seen
 use Rattle.wal.specs.Glances.{owner_seen}
-use Rattle.wal.specs.Meaning.{is_owned_by, is_of, is_on}
-use Rattle.wal.specs.Redo.{rec_lsn_of}
-use Rattle.wal.specs.Checkpoint.{or_else}
+use Rattle.log_laws.specs.Meaning.{is_owned_by, is_of, is_on}
+use Rattle.log_laws.specs.Redo.{rec_lsn_of}
+use Rattle.log_laws.specs.Checkpoint.{or_else}
 use Rattle.wal.specs.Content.{entry_of}
 use Rattle.wal.specs.declared.record.Entry.{Entry}
 use Rattle.analysis.specs.Tables.{entry_at}

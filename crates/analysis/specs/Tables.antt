@@ -3,16 +3,15 @@ use Rattle.std.specs.Prelude.{◌≡◌, ◌≤◌, ◌<◌, ℕ, suc, is_some, 
 use Rattle.page.specs.declared.fault.Fault.{Fault}
 use Rattle.page.specs.declared.fault.Fault.TheVariants.{NoResource, BadMaster}
 use Rattle.page.specs.Causes.{HasOneCause, HasNoCause}
-use Rattle.wal.specs.declared.record.State.{State}
-use Rattle.wal.specs.declared.record.State.TheVariants.{Active, Prepared, Aborting}
+use Rattle.log_laws.specs.declared.state.State.{State}
+use Rattle.log_laws.specs.declared.state.State.TheVariants.{Active, Prepared, Aborting}
 use Rattle.wal.specs.declared.record.Entry.{Entry}
-use Rattle.wal.specs.Records.{TableEntry, LogRecord, Update, Compensation, History, start, ◌▸◌, LogContent, history, last_lsn, tx_in, page_in, base_lsn, record_at}
-use Rattle.wal.specs.Meaning.{state_by, is_of, is_commit_of, is_abort_of, is_end_of, is_prepare_of, is_on}
-use Rattle.wal.specs.Redo.{rec_lsn_of}
-use Rattle.wal.specs.Undo.{entry_for, is_prepared}
-use Rattle.wal.specs.Checkpoint.{or_else, checkpoint_at}
+use Rattle.log_laws.specs.Records.{TableEntry, LogRecord, Update, Compensation, History, start, ◌▸◌, LogContent, history, last_lsn, tx_in, page_in, base_lsn, record_at}
+use Rattle.log_laws.specs.Meaning.{state_by, is_of, is_commit_of, is_abort_of, is_end_of, is_prepare_of, is_on}
+use Rattle.log_laws.specs.Redo.{rec_lsn_of}
+use Rattle.log_laws.specs.Undo.{entry_for, is_prepared}
+use Rattle.log_laws.specs.Checkpoint.{or_else, checkpoint_at, IsRising}
 use Rattle.wal.specs.Content.{entry_of}
-use Rattle.wal.specs.Spelling.{IsRising}
 use Rattle.tables.specs.Tables.{TablesContent}
 
 -- THE BASE. Empty if the master is 0, otherwise the tables of its checkpoint.

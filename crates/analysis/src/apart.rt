@@ -5,9 +5,9 @@
 ghost use Rattle.std.specs.Prelude.{◌≡◌, ℕ, map, None, IfOk, IfErr};
 ghost use Rattle.page.specs.Store.{StoreContent};
 ghost use Rattle.wal.specs.Content.{entry_of};
-ghost use Rattle.wal.specs.Meaning.{BasePages};
-ghost use Rattle.wal.specs.Records.{LogContent, history};
-ghost use Rattle.wal.specs.Store.{Lawful};
+ghost use Rattle.log_laws.specs.Meaning.{BasePages};
+ghost use Rattle.log_laws.specs.Records.{LogContent, history};
+ghost use Rattle.log_laws.specs.Store.{Lawful};
 ghost use Rattle.tables.specs.Lawful.{AreTrue};
 ghost use Rattle.analysis.specs.Tables.{entry_at, AreTablesOf, AreTransactionsOf, AreDirtyPagesOf, BaseFault, tables_with};
 

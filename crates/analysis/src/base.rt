@@ -2,10 +2,10 @@
 
 ghost use Rattle.std.specs.Prelude.{◌≡◌, ℕ, Option, Some, None, option_map, IfOk, OnOk, IfErr, IfSome, [], length, drop, ◌<◌, ◌+◌, IsOkUnless};
 ghost use Rattle.page.specs.declared.fault.Fault.TheVariants.{NoResource};
-ghost use Rattle.wal.specs.Records.{history, record_at};
-ghost use Rattle.wal.specs.Redo.{rec_lsn_of};
+ghost use Rattle.log_laws.specs.Records.{history, record_at};
+ghost use Rattle.log_laws.specs.Redo.{rec_lsn_of};
 ghost use Rattle.analysis.specs.Tables.{entry_at, IsBase, BaseFault};
-ghost use Rattle.wal.specs.Undo.{entry_for};
+ghost use Rattle.log_laws.specs.Undo.{entry_for};
 
 use page::Fault;
 use std::alloc::Global;

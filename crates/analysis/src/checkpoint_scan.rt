@@ -2,9 +2,9 @@
 
 ghost use Rattle.std.specs.Prelude.{◌≡◌, ◌||◌, ℕ, Some, None, option_map, is_some, IfOk, IfErr, IfSome, IfNone, OnOk, IsOkUnless};
 ghost use Rattle.page.specs.declared.fault.Fault.TheVariants.{NoResource, BadMaster};
-ghost use Rattle.wal.specs.Records.{CheckpointEnd, History, history, last_lsn, base_lsn, record_at, ◌▸▸◌};
+ghost use Rattle.log_laws.specs.Records.{CheckpointEnd, History, history, last_lsn, base_lsn, record_at, ◌▸▸◌};
 ghost use Rattle.wal.specs.Spelling.{Fits};
-ghost use Rattle.wal.specs.Checkpoint.{first_end, is_begin};
+ghost use Rattle.log_laws.specs.Checkpoint.{first_end, is_begin};
 ghost use Rattle.analysis.specs.Tables.{entry_at, IsBase, BaseFault};
 ghost use Rattle.analysis.specs.Passing.{HasSeen, IsEnd};
 

@@ -3,9 +3,9 @@
 
 ghost use Rattle.std.specs.Prelude.{◌≡◌, ◌≤◌, ◌<◌, ◌⊎◌, ℕ, List, [], map, true, false, Option, Some, slice_index_or, IsTrue, IfOk, IfErr, IsOkUnless};
 ghost use Rattle.page.specs.declared.fault.Fault.TheVariants.{NoResource};
-ghost use Rattle.wal.specs.Records.{TableEntry, page_in, history, first, last_lsn, base_lsn};
-ghost use Rattle.wal.specs.Redo.{rec_lsn_of};
-ghost use Rattle.wal.specs.Spelling.{IsRising};
+ghost use Rattle.log_laws.specs.Records.{TableEntry, page_in, history, first, last_lsn, base_lsn};
+ghost use Rattle.log_laws.specs.Redo.{rec_lsn_of};
+ghost use Rattle.log_laws.specs.Checkpoint.{IsRising};
 ghost use Rattle.analysis.specs.Tables.{base_of, analysed_rec_lsn, AreAllListed, AreDirtyPagesOf, ServesRedo, BaseFault};
 ghost use Rattle.analysis.specs.Steps.{AreListed};
 

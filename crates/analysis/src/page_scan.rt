@@ -2,9 +2,9 @@
 
 ghost use Rattle.std.specs.Prelude.{◌≡◌, ℕ, Option, IfOk, OnOk, IsOkUnless};
 ghost use Rattle.page.specs.declared.fault.Fault.TheVariants.{NoResource};
-ghost use Rattle.wal.specs.Records.{LogRecord, History, history, last_lsn, base_lsn, ◌▸▸◌};
+ghost use Rattle.log_laws.specs.Records.{LogRecord, History, history, last_lsn, base_lsn, ◌▸▸◌};
 ghost use Rattle.wal.specs.Glances.{glance_of};
-ghost use Rattle.wal.specs.Redo.{rec_lsn_of};
+ghost use Rattle.log_laws.specs.Redo.{rec_lsn_of};
 ghost use Rattle.analysis.specs.Tables.{analysed_rec_lsn};
 ghost use Rattle.analysis.specs.Steps.{rec_lsn_after};
 

@@ -2,11 +2,11 @@
 
 ghost use Rattle.std.specs.Prelude.{◌≡◌, ◌≤◌, max, None, IfOk, IfErr};
 ghost use Rattle.page.specs.Store.{StoreContent};
-ghost use Rattle.wal.specs.Records.{history};
-ghost use Rattle.wal.specs.Meaning.{BasePages};
-ghost use Rattle.wal.specs.Store.{Lawful};
+ghost use Rattle.log_laws.specs.Records.{history};
+ghost use Rattle.log_laws.specs.Meaning.{BasePages};
+ghost use Rattle.log_laws.specs.Store.{Lawful};
 ghost use Rattle.tables.specs.Lawful.{AreTrue};
-ghost use Rattle.wal.specs.Undo.{entry_for};
+ghost use Rattle.log_laws.specs.Undo.{entry_for};
 ghost use Rattle.analysis.specs.Tables.{redo_lsn_of, AreTablesOf, BaseFault};
 ghost use Rattle.analysis.specs.Steps.{lower};
 

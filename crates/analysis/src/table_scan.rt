@@ -4,11 +4,11 @@ ghost use Rattle.std.specs.Prelude.{◌≡◌, ◌≤◌, ℕ, None, IfOk, OnOk,
 ghost use Rattle.page.specs.Store.{StoreContent};
 ghost use Rattle.page.specs.declared.fault.Fault.TheVariants.{NoResource};
 ghost use Rattle.wal.specs.Glances.{glance_of};
-ghost use Rattle.wal.specs.Meaning.{BasePages};
-ghost use Rattle.wal.specs.Records.{LogRecord, LogContent, History, history, last_lsn, base_lsn, ◌▸▸◌};
-ghost use Rattle.wal.specs.Redo.{rec_lsn_of};
-ghost use Rattle.wal.specs.Store.{Lawful};
-ghost use Rattle.wal.specs.Undo.{entry_for};
+ghost use Rattle.log_laws.specs.Meaning.{BasePages};
+ghost use Rattle.log_laws.specs.Records.{LogRecord, LogContent, History, history, last_lsn, base_lsn, ◌▸▸◌};
+ghost use Rattle.log_laws.specs.Redo.{rec_lsn_of};
+ghost use Rattle.log_laws.specs.Store.{Lawful};
+ghost use Rattle.log_laws.specs.Undo.{entry_for};
 ghost use Rattle.wal.specs.declared.sizes.TheConstants.{LARGEST_BASE};
 ghost use Rattle.tables.specs.Lawful.{AreTrue};
 ghost use Rattle.analysis.specs.Tables.{entry_at, IsBase, AreTablesOf};

@@ -2,7 +2,7 @@
 
 ghost use Rattle.std.specs.Prelude.{◌≡◌, ℕ, Option, None, IfOk, OnOk, IsOkUnless};
 ghost use Rattle.page.specs.declared.fault.Fault.TheVariants.{NoResource};
-ghost use Rattle.wal.specs.Records.{TableEntry, History, history, last_lsn, base_lsn, ◌▸▸◌};
+ghost use Rattle.log_laws.specs.Records.{TableEntry, History, history, last_lsn, base_lsn, ◌▸▸◌};
 ghost use Rattle.analysis.specs.Tables.{entry_at, analysed_entry};
 ghost use Rattle.analysis.specs.Steps.{entry_seen};
 

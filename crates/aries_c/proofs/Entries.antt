@@ -1,8 +1,8 @@
 -- C gets an entry of a table in only one form.
 use Rattle.std.proofs.Common.{◌≡◌, ℕ, ap, ap₂, ◌∙◌, refl, arith}
-use Rattle.wal.specs.declared.record.State.{State}
-use Rattle.wal.specs.declared.record.State.TheVariants.{Active, Aborting, Prepared}
-use Rattle.wal.specs.Records.{TableEntry}
+use Rattle.log_laws.specs.declared.state.State.{State}
+use Rattle.log_laws.specs.declared.state.State.TheVariants.{Active, Aborting, Prepared}
+use Rattle.log_laws.specs.Records.{TableEntry}
 use Rattle.aries_c.specs.declared.checkpoint.Entry.{Entry as Told}
 use Rattle.aries_c.specs.declared.checkpoint.DirtyPage.{DirtyPage}
 use Rattle.aries_c.specs.Tables.{state_number, told_entry, told_dirty}

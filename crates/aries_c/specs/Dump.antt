@@ -1,6 +1,6 @@
 -- The records of a log as C gets them (own).
 use Rattle.std.specs.Prelude.{◌≡◌, ℕ, ◌+◌, ◌-◌, ◌<◌, List, length, max, min, Some, slice_index_or}
-use Rattle.wal.specs.Records.{LogRecord, LogContent, History, history, base_lsn, last_lsn, record_at}
+use Rattle.log_laws.specs.Records.{LogRecord, LogContent, History, history, base_lsn, last_lsn, record_at}
 use Rattle.aries_c.specs.declared.record.Record.{Record as Told}
 use Rattle.aries_c.specs.declared.dump.Read.{Read}
 use Rattle.wal.specs.Reads.{Reads}

@@ -1,6 +1,6 @@
 -- What the calls on a journal promise, for each run of which the arrays of their caller are the journal (own).
 use Rattle.std.specs.Prelude.{◌≡◌, ◌<◌, ◌≤◌, ℕ, true, false, is_some, None, List, length, take}
-use Rattle.wal.specs.Meaning.{BasePages, is_of, has, last_on, pending}
+use Rattle.log_laws.specs.Meaning.{BasePages, is_of, has, last_on, pending}
 use Rattle.journal.specs.declared.table.Need.TheVariants.{NotPrepared}
 use Rattle.journal.specs.declared.entries.Head.{Head}
 use Rattle.journal.specs.declared.entries.TransactionEntry.{TransactionEntry}

@@ -2,14 +2,14 @@
 use Rattle.std.specs.Prelude.{◌≡◌, ◌≢◌, ◌⊎◌, ℕ, List, length}
 use Rattle.page.specs.Store.{StoreContent}
 use Rattle.page.specs.File.{SpellsStore, StoreFault}
-use Rattle.wal.specs.declared.record.State.{State}
-use Rattle.wal.specs.declared.header.LogStart.{LogStart}
+use Rattle.log_laws.specs.declared.state.State.{State}
+use Rattle.log_laws.specs.declared.start.LogStart.{LogStart}
 use Rattle.wal.specs.declared.sizes.TheConstants.{PLAIN_FRAME}
 use Rattle.wal.specs.Headers.{FitsStart}
-use Rattle.wal.specs.Records.{LogContent, history, last_lsn, lsn_before}
-use Rattle.wal.specs.Meaning.{BasePages}
+use Rattle.log_laws.specs.Records.{LogContent, history, last_lsn, lsn_before}
+use Rattle.log_laws.specs.Meaning.{BasePages}
 use Rattle.wal.specs.Reads.{Reads, Cause}
-use Rattle.wal.specs.Pages.{base_pages}
+use Rattle.log_laws.specs.Pages.{base_pages}
 use Rattle.journal.specs.declared.refusal.Refusal.{Refusal}
 use Rattle.journal.specs.declared.refusal.Refusal.TheVariants.{UnknownTransaction, Forbidden, NoSuchPage, NoSuchSlot, Held, NothingToUndo, StillPending, TooManyTransactions, NoNumber, NoSuchLsn, LogNotWritten, BadImage, NoFrameRoom, NoPendingRoom, BadArrays, LogFull, NoResource, HasRecords, HasMaster, PageAhead, PageBehind}
 use Rattle.journal.specs.declared.table.Need.TheVariants.{NotAborting}

@@ -1,7 +1,7 @@
 -- The header of a log as C names it (own).
 use Rattle.std.specs.Prelude.{◌≡◌, ℕ, List}
-use Rattle.wal.specs.declared.header.LogStart.{LogStart}
-use Rattle.wal.specs.declared.header.LogStart.TheVariants.{Version1, Version2}
+use Rattle.log_laws.specs.declared.start.LogStart.{LogStart}
+use Rattle.log_laws.specs.declared.start.LogStart.TheVariants.{Version1, Version2}
 use Rattle.wal.specs.Headers.{header_of, FitsStart}
 
 -- version 1, whose base LSN is 0, or version 2 with a base LSN

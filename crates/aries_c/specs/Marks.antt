@@ -1,6 +1,6 @@
 -- A log as C reads it record by record, and its end (own).
 use Rattle.std.specs.Prelude.{◌≡◌, ◌+◌, ◌⊎◌, ℕ, List, drop, length}
-use Rattle.wal.specs.Records.{LogRecord}
+use Rattle.log_laws.specs.Records.{LogRecord}
 use Rattle.wal.specs.Reads.{IsTorn}
 use Rattle.pieces.specs.declared.mark.Mark.{Mark}
 use Rattle.cursor.specs.Ends.{HasFaultAt, IsNext}

@@ -1,6 +1,6 @@
 -- Records as C reads and writes them (own).
 use Rattle.std.specs.Prelude.{◌≡◌, ◌<◌, ℕ, List, ⊤}
-use Rattle.wal.specs.Records.{UpdateRecord, CompensationRecord, PlainRecord, LogRecord, Update, Compensation, Commit, Abort, End, Prepare, CheckpointBegin, CheckpointEnd}
+use Rattle.log_laws.specs.Records.{UpdateRecord, CompensationRecord, PlainRecord, LogRecord, Update, Compensation, Commit, Abort, End, Prepare, CheckpointBegin, CheckpointEnd}
 use Rattle.wal.specs.Spelling.{kind_of, frame, Fits}
 use Rattle.page.specs.Image.{Image}
 use Rattle.aries_c.specs.declared.frames.Head.{Head}

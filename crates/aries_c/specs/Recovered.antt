@@ -1,10 +1,10 @@
 -- What C gets of a recovery (own).
 use Rattle.std.specs.Prelude.{◌≡◌, ℕ, ◌+◌, ◌-◌, ◌*◌, ◌<◌, ◌≤◌, ◌⊎◌, List, ◌++◌, length, take}
 use Rattle.page.specs.File.{store_text}
-use Rattle.wal.specs.Meaning.{BasePages}
+use Rattle.log_laws.specs.Meaning.{BasePages}
 use Rattle.wal.specs.Reads.{log_text}
-use Rattle.wal.specs.Store.{store_out}
-use Rattle.wal.specs.Tail.{with_tail}
+use Rattle.log_laws.specs.Store.{store_out}
+use Rattle.log_laws.specs.Tail.{with_tail}
 use Rattle.recovery.specs.Text.{ReportContent}
 use Rattle.recovery.specs.Recovery.{Recovers, Recovered as AreRecovered, AreLawful, AreCut}
 use Rattle.aries_c.specs.declared.fault.Fault.{Fault as Told}

@@ -1,8 +1,8 @@
 -- The tables of a checkpoint end as C reads and writes them (own).
 use Rattle.std.specs.Prelude.{◌≡◌, ◌≢◌, ℕ, ◌<◌, ◌⊎◌, List, ◌++◌, length, map, drop, Some}
-use Rattle.wal.specs.declared.record.State.{State}
-use Rattle.wal.specs.declared.record.State.TheVariants.{Active, Aborting, Prepared}
-use Rattle.wal.specs.Records.{TableEntry, LogContent, History, CheckpointEnd, history, record_at}
+use Rattle.log_laws.specs.declared.state.State.{State}
+use Rattle.log_laws.specs.declared.state.State.TheVariants.{Active, Aborting, Prepared}
+use Rattle.log_laws.specs.Records.{TableEntry, LogContent, History, CheckpointEnd, history, record_at}
 use Rattle.wal.specs.Reads.{Reads}
 use Rattle.wal.specs.Spelling.{frame, Fits}
 use Rattle.aries_c.specs.declared.checkpoint.Entry.{Entry as Told}

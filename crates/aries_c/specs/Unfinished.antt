@@ -1,7 +1,7 @@
 -- What C gets of a log that an engine continues (own).
 use Rattle.std.specs.Prelude.{◌≡◌, ◌<◌, ◌≤◌, ℕ, true, List, length, IfSome}
-use Rattle.wal.specs.Records.{TableEntry, LogContent, History, history, last_lsn, EachRecord}
-use Rattle.wal.specs.Meaning.{owner, is_of, has}
+use Rattle.log_laws.specs.Records.{TableEntry, LogContent, History, history, last_lsn, EachRecord}
+use Rattle.log_laws.specs.Meaning.{owner, is_of, has}
 use Rattle.wal.specs.Reads.{Reads}
 use Rattle.analysis.specs.Tables.{AreTransactionsOf}
 use Rattle.aries_c.specs.declared.checkpoint.Entry.{Entry as Told}

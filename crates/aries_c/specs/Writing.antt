@@ -1,6 +1,6 @@
 -- What a call that writes leaves in its caller's buffers (own).
 use Rattle.std.specs.Prelude.{◌≡◌, ℕ, ◌<◌, ◌⊎◌, List, ◌++◌, drop, length}
-use Rattle.wal.specs.Records.{LogRecord}
+use Rattle.log_laws.specs.Records.{LogRecord}
 use Rattle.wal.specs.Spelling.{frame}
 use Rattle.journal.specs.Writing.{HasKind}
 use Rattle.aries_c.specs.declared.fault.Fault.{Fault as Told}

@@ -1,6 +1,6 @@
 //! The audit of bytes.
 
-ghost use Rattle.wal.specs.Meaning.{no_base};
+ghost use Rattle.log_laws.specs.Meaning.{no_base};
 ghost use Rattle.recovery.specs.Recovery.{AreLawful};
 ghost use Rattle.recovery.specs.Audit.{AuditFault, AreLawfulOver, AuditFaultOver};
 ghost use Rattle.aries_c.specs.Fault.{Tells, IsOnlyMemory, OnDone, OnFailed};

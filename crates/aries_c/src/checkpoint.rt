@@ -1,8 +1,8 @@
 //! The tables of a checkpoint end as C reads and writes them.
 
 ghost use Rattle.std.specs.Prelude.{◌≡◌, ◌≢◌, ◌≤◌, IfOk, IfErr, length, map};
-ghost use Rattle.wal.specs.declared.record.State.{State as Content};
-ghost use Rattle.wal.specs.Records.{TableEntry};
+ghost use Rattle.log_laws.specs.declared.state.State.{State as Content};
+ghost use Rattle.log_laws.specs.Records.{TableEntry};
 ghost use Rattle.wal.specs.Content.{entry_of};
 ghost use Rattle.aries_c.specs.Fault.{no_memory, not_writable, IsMemoryOrNotWritable};
 ghost use Rattle.aries_c.specs.Tables.{state_number, told_entry, told_dirty, Fills, NamesNoTable};

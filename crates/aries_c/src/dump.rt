@@ -1,7 +1,7 @@
 //! The records of a log, for a dump.
 
 ghost use Rattle.std.specs.Prelude.{◌≡◌, ◌+◌, ◌-◌, ◌<◌, length, min, IfSome, IfNone};
-ghost use Rattle.wal.specs.Records.{history, last_lsn, base_lsn};
+ghost use Rattle.log_laws.specs.Records.{history, last_lsn, base_lsn};
 ghost use Rattle.wal.specs.Reads.{Cause};
 ghost use Rattle.aries_c.specs.Fault.{Tells, TellsOrRefuses, OnDone, OnFailed, OnNoRoom, OnOtherFailure, OnNotWritable};
 ghost use Rattle.aries_c.specs.Tables.{HasTables, IsEndAt, HasNoTables, TellsTables, TablesExceed};

@@ -2,7 +2,7 @@
 
 ghost use Rattle.std.specs.Prelude.{◌<◌};
 ghost use Rattle.page.specs.declared.profile.TheConstants.{SLOTS};
-ghost use Rattle.wal.specs.Records.{CheckpointBegin};
+ghost use Rattle.log_laws.specs.Records.{CheckpointBegin};
 ghost use Rattle.wal.specs.Spelling.{Fits};
 ghost use Rattle.wal.specs.Content.{content};
 ghost use Rattle.aries_c.specs.Record.{IsGivenWhole, update_of, compensation_of};

@@ -1,8 +1,8 @@
 //! The checkpoints of a journal, and what it gets to know of the disk.
 
 ghost use Rattle.std.specs.Prelude.{◌≡◌, ◌≤◌, ◌+◌, ℕ, List, max, length};
-ghost use Rattle.wal.specs.Records.{TableEntry, CheckpointBegin};
-ghost use Rattle.wal.specs.Meaning.{BasePages};
+ghost use Rattle.log_laws.specs.Records.{TableEntry, CheckpointBegin};
+ghost use Rattle.log_laws.specs.Meaning.{BasePages};
 ghost use Rattle.journal.specs.declared.entries.PendingEntry.{PendingEntry};
 ghost use Rattle.journal.specs.Runs.{Run, appended, AreTrueTables};
 ghost use Rattle.journal.specs.Writing.{Begins};

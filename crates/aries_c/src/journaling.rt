@@ -2,8 +2,8 @@
 
 ghost use Rattle.std.specs.Prelude.{◌≡◌, ◌≤◌, ◌+◌, List, length};
 ghost use Rattle.wal.specs.declared.sizes.TheConstants.{PLAIN_FRAME};
-ghost use Rattle.wal.specs.Records.{LogRecord};
-ghost use Rattle.wal.specs.Meaning.{BasePages};
+ghost use Rattle.log_laws.specs.Records.{LogRecord};
+ghost use Rattle.log_laws.specs.Meaning.{BasePages};
 ghost use Rattle.wal.specs.Spelling.{frame};
 ghost use Rattle.journal.specs.declared.entries.PageEntry.{PageEntry};
 ghost use Rattle.journal.specs.Runs.{Run, appended};

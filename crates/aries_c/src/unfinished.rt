@@ -1,7 +1,7 @@
 //! What an engine has to know of a log that it continues.
 
 ghost use Rattle.std.specs.Prelude.{◌≡◌, ◌<◌, ◌≤◌, length, map};
-ghost use Rattle.wal.specs.Records.{history};
+ghost use Rattle.log_laws.specs.Records.{history};
 ghost use Rattle.wal.specs.Reads.{Cause};
 ghost use Rattle.wal.specs.Content.{entry_of};
 ghost use Rattle.aries_c.specs.Fault.{Tells, OnDone, OnFailed, OnNoRoom, OnOtherFailure, OnMade};

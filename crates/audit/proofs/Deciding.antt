@@ -1,23 +1,21 @@
 -- The laws of a record, decided by what an audit keeps.
 use Rattle.std.proofs.Common.{◌≡◌, ◌<◌, ◌≤◌, not, ℕ, Bool, true, false, List, [], ◌∷◌, length, Option, Some, None, refl, sym, ap, subst, ◌∙◌, inl, inr, arith, ◌+◌}
 use Rattle.std.proofs.lemmas.Bool.{cases_eq, both_ways}
-use Rattle.wal.specs.Records.{UpdateRecord, CompensationRecord, LogRecord, Update, Compensation, History, history, last_lsn, record_at, LogContent, base_lsn}
-use Rattle.wal.specs.Meaning.{BasePages, pending, finished}
-use Rattle.wal.specs.Laws.{IsLawful, FinishLaw, Compensates, Strictness}
-use Rattle.wal.proofs.Histories.{record_none}
-use Rattle.wal.proofs.Holders.{held, strict_from_holder}
-use Rattle.wal.proofs.Restored.{touches_has}
+use Rattle.log_laws.specs.Records.{UpdateRecord, CompensationRecord, LogRecord, Update, Compensation, History, history, last_lsn, record_at, LogContent, base_lsn}
+use Rattle.log_laws.specs.Meaning.{BasePages, pending, finished, last_writer}
+use Rattle.log_laws.specs.Laws.{IsLawful, FinishLaw, Compensates, Strictness}
+use Rattle.log_laws.proofs.Histories.{record_none}
+use Rattle.log_laws.proofs.Holders.{held, strict_from_holder, last_touches, holder_wrote}
+use Rattle.log_laws.proofs.Restored.{touches_has}
 use Rattle.audit.specs.declared.status.Status.{Status}
 use Rattle.audit.specs.declared.standing.Finish.{Finish}
 use Rattle.audit.specs.declared.standing.Standing.{Standing}
 use Rattle.audit.specs.declared.standing.Standing.TheVariants.{Unfinished, Finished}
 use Rattle.audit.specs.Statuses.{Linked, IsStatusOf}
 use Rattle.audit.specs.Standings.{IsStandingOf, newest_of, standing_by}
-use Rattle.audit.specs.Cells.{last_writer}
 use Rattle.audit.specs.Passing.{Begins, IsUpdateUndoneBy, IsFreeFor}
 use Rattle.audit.proofs.StandingAfter.{finished_so}
 use Rattle.audit.proofs.Unfinished.{absent_finished, present_unfinished}
-use Rattle.audit.proofs.Cells.{last_touches, holder_wrote}
 
 -- COMPENSATION
 -- the record at an LSN is what a CLR undoes

@@ -5,7 +5,7 @@ use Rattle.std.proofs.lemmas.Bool.{cases_Bool, cases_eq, cases_lt}
 use Rattle.std.proofs.lemmas.List.{length-set, length-take, get_or-take, get_or-set_other, get_or_append_left, get_or_push}
 use Rattle.std.proofs.lemmas.Grind.{get_or-set_at}
 use Rattle.std.proofs.lemmas.Option.{same_Some}
-use Rattle.wal.specs.Checkpoint.{or_else}
+use Rattle.log_laws.specs.Checkpoint.{or_else}
 use Rattle.audit.specs.declared.standing.Finish.{Finish}
 use Rattle.audit.specs.declared.finishes.Finishes.{Finishes}
 use Rattle.audit.specs.declared.finish_table.Block.{Block}

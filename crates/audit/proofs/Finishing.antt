@@ -2,24 +2,17 @@
 use Rattle.std.proofs.Common.{◌≡◌, ◌<◌, ◌≤◌, ◌+◌, ℕ, suc, Bool, true, false, Option, Some, None, refl, sym, ap, subst, ◌∙◌, inl, inr, arith, eqb-true, eq-eqb, ne_eqb}
 use Rattle.std.proofs.lemmas.Bool.{cases_Bool, cases_eq, or_left, or_right, or_parts, both_ways, false≢true}
 use Rattle.std.specs.Prelude.{IfSome}
-use Rattle.wal.specs.Records.{LogRecord, Update, Compensation, Commit, Abort, End, Prepare, History, start, ◌▸◌, LogContent, history, last_lsn, record_at}
-use Rattle.wal.specs.Meaning.{BasePages, owner, prev_of, is_of, is_commit_of, is_end_of, has, committed, ended, finished, last_of}
-use Rattle.wal.specs.Laws.{ChainLaw, FinishLaw, IsLawful}
-use Rattle.wal.specs.Tail.{number_or_0, tx_of}
-use Rattle.wal.proofs.Holders.{found_has}
+use Rattle.log_laws.specs.Records.{LogRecord, Update, Compensation, Commit, Abort, End, Prepare, History, start, ◌▸◌, LogContent, history, last_lsn, record_at}
+use Rattle.log_laws.specs.Meaning.{BasePages, owner, prev_of, is_of, is_commit_of, is_end_of, has, committed, ended, finished, last_of}
+use Rattle.log_laws.specs.Laws.{ChainLaw, FinishLaw, IsLawful}
+use Rattle.log_laws.specs.Tail.{number_or_0, tx_of}
+use Rattle.log_laws.proofs.Histories.{last_within}
+use Rattle.log_laws.proofs.Holders.{found_has}
 use Rattle.audit.specs.declared.standing.Finish.{Finish}
 use Rattle.audit.specs.declared.standing.Finish.TheVariants.{Committed, Ended}
 use Rattle.audit.specs.Standings.{HasFinished, is_finish_of, is_some_with}
 use Rattle.audit.specs.Passing.{Begins}
 use Rattle.audit.proofs.StandingAfter.{end_of_another}
-
-pub last_within : (t : ℕ) (log : History) → last_of t log ≤ last_lsn log
-last_within t (start _) = omega arith
-last_within t (log ▸ r) =
-    elim (cases_Bool (is_of t r)) [
-      | inl e ↦ rw e (omega arith)
-      | inr e ↦ rw e (omega (arith, last_within t log))
-    ]
 
 -- the record of t that passes a test is its last, and no other record passes it
 module _ (t : ℕ) (test : LogRecord → Bool) where

@@ -6,13 +6,13 @@ use Rattle.page.specs.declared.fault.Fault.{Fault}
 use Rattle.page.specs.declared.fault.Fault.TheVariants.{NoResource, NoSuchPage, Chain, AfterFinish, WrongCompensation, BeforeImage, DirtyWrite, EndTooEarly, PageAheadOfLog, PageImage, BadMaster, TransactionTable, DirtyTable}
 use Rattle.page.specs.declared.page.Page.{Page}
 use Rattle.page.specs.Store.{StoreContent}
-use Rattle.wal.specs.Meaning.{BasePages}
-use Rattle.wal.specs.Records.{TableEntry, LogRecord, History, history, LogContent, EachRecord, first, record_at}
-use Rattle.wal.specs.Laws.{Obeys, IsLawful}
-use Rattle.wal.specs.Pages.{PageLaw}
-use Rattle.wal.specs.Checkpoint.{CheckpointLaw, checkpoint_at}
-use Rattle.wal.specs.Store.{NamesPages, Lawful}
-use Rattle.wal.proofs.Lists.{each_of_lawful}
+use Rattle.log_laws.specs.Meaning.{BasePages}
+use Rattle.log_laws.specs.Records.{TableEntry, LogRecord, History, history, LogContent, EachRecord, first, record_at}
+use Rattle.log_laws.specs.Laws.{Obeys, IsLawful}
+use Rattle.log_laws.specs.Pages.{PageLaw}
+use Rattle.log_laws.specs.Checkpoint.{CheckpointLaw, checkpoint_at}
+use Rattle.log_laws.specs.Store.{NamesPages, Lawful}
+use Rattle.log_laws.proofs.Lists.{each_of_lawful}
 use Rattle.audit.specs.FirstFault.{BrokenAt, RecordFault, FirstBroken, BrokenPage, PageLawFault, FirstBrokenPage, KeepsDirty, MasterFault, FirstFault, NoFaultOfTheLawful}
 
 pub not_broken : (base : BasePages) (count : ℕ) (log : History) (r : LogRecord) (e : Fault) → NamesPages count r → Obeys base log r → BrokenAt base count log r e → ⊥

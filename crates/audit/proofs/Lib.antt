@@ -7,7 +7,6 @@ pub mod Noting
 pub mod Passing
 pub mod PageImages
 pub mod Unfinished
-pub mod TrueTable
 pub mod Missing
 pub mod Kept
 pub mod OneFault

@@ -4,11 +4,11 @@ use Rattle.std.proofs.lemmas.Bool.{cases_Bool, cases_eq, cases_lt, and_parts, an
 use Rattle.std.proofs.lemmas.List.{get_or-set_same, get_or-set_other}
 use Rattle.std.proofs.Math.ListN.{length-set}
 use Rattle.page.specs.declared.page.Page.{Page}
-use Rattle.wal.specs.Records.{LogRecord, Update, Compensation, History, start, ◌▸◌, history, last_lsn, record_at, LogContent, first, base_lsn}
-use Rattle.wal.specs.Meaning.{is_on, cell_of}
-use Rattle.wal.specs.Checkpoint.{DirtyLaw}
-use Rattle.wal.specs.Store.{NamesPages}
-use Rattle.wal.proofs.Histories.{record_last, record_more, record_in_first, size_of_first}
+use Rattle.log_laws.specs.Records.{LogRecord, Update, Compensation, History, start, ◌▸◌, history, last_lsn, record_at, LogContent, first, base_lsn}
+use Rattle.log_laws.specs.Meaning.{is_on, cell_of}
+use Rattle.log_laws.specs.Checkpoint.{DirtyLaw}
+use Rattle.log_laws.specs.Store.{NamesPages}
+use Rattle.log_laws.proofs.Histories.{record_last, record_more, record_in_first, size_of_first}
 use Rattle.audit.specs.Pages.{page_lsn}
 use Rattle.audit.specs.Dirty.{first_missing, KeepsMissing, missing_after, IsRecLsnInRange, IsCovered}
 

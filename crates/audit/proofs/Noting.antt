@@ -4,9 +4,9 @@ use Rattle.std.proofs.lemmas.Bool.{cases_Bool, cases_eq, and_left, and_right}
 use Rattle.std.proofs.lemmas.List.{get_or-set_other}
 use Rattle.std.proofs.lemmas.Grind.{get_or-set_at}
 use Rattle.std.proofs.Math.ListN.{length-set}
-use Rattle.wal.specs.Records.{LogRecord, Update, Compensation, History, ◌▸◌, base_lsn}
-use Rattle.wal.specs.Meaning.{BasePages, owner, pending, writes, cell_of, image_of}
-use Rattle.wal.specs.Store.{NamesPages}
+use Rattle.log_laws.specs.Records.{LogRecord, Update, Compensation, History, ◌▸◌, base_lsn}
+use Rattle.log_laws.specs.Meaning.{BasePages, owner, pending, writes, cell_of, image_of}
+use Rattle.log_laws.specs.Store.{NamesPages}
 use Rattle.wal.specs.Spelling.{Fits}
 use Rattle.audit.specs.declared.standing.Standing.{Standing}
 use Rattle.audit.specs.declared.standing.Standing.TheVariants.{Unfinished, Finished}

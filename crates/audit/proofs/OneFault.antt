@@ -8,15 +8,15 @@ use Rattle.page.specs.declared.fault.Fault.TheVariants.{NoResource, NoSuchPage, 
 use Rattle.page.specs.declared.page.Page.{Page}
 use Rattle.page.specs.Causes.{HasOneCause}
 use Rattle.page.specs.Store.{StoreContent}
-use Rattle.wal.specs.Meaning.{BasePages}
-use Rattle.wal.specs.Records.{LogRecord, History, history, last_lsn, TableEntry, LogContent, record_at, first}
-use Rattle.wal.specs.Laws.{ChainLaw, FinishLaw, CompensationLaw, BeforeLaw, Strictness, Obeys}
-use Rattle.wal.specs.Tail.{is_end}
-use Rattle.wal.specs.Pages.{PageLaw}
-use Rattle.wal.specs.Checkpoint.{checkpoint_at}
-use Rattle.wal.specs.Store.{NamesPages}
-use Rattle.wal.proofs.Histories.{record_in_first, first_first}
-use Rattle.wal.proofs.Lists.{each_of_lawful}
+use Rattle.log_laws.specs.Meaning.{BasePages}
+use Rattle.log_laws.specs.Records.{LogRecord, History, history, last_lsn, TableEntry, LogContent, record_at, first}
+use Rattle.log_laws.specs.Laws.{ChainLaw, FinishLaw, CompensationLaw, BeforeLaw, Strictness, Obeys}
+use Rattle.log_laws.specs.Tail.{is_end}
+use Rattle.log_laws.specs.Pages.{PageLaw}
+use Rattle.log_laws.specs.Checkpoint.{checkpoint_at}
+use Rattle.log_laws.specs.Store.{NamesPages}
+use Rattle.log_laws.proofs.Histories.{record_in_first, first_first}
+use Rattle.log_laws.proofs.Lists.{each_of_lawful}
 use Rattle.audit.specs.FirstFault.{BrokenAt, AreSound, RecordFault, FirstBroken, BrokenPage, PageLawFault, FirstBrokenPage, KeepsDirty, FirstUncovered, MasterFault, FirstFault, OneFirstFault}
 use Rattle.audit.proofs.Kept.{not_broken, none_broken, page_not_broken, none_broken_page, same_transactions, same_dirty}
 

@@ -4,8 +4,8 @@ use Rattle.std.specs.Prelude.{Result, IfErr, ⊤}
 use Rattle.page.specs.declared.fault.Fault.{Fault}
 use Rattle.page.specs.declared.fault.Fault.TheVariants.{NoResource, BadBase}
 use Rattle.page.specs.Store.{StoreContent}
-use Rattle.wal.specs.Records.{LogContent}
-use Rattle.wal.specs.Pages.{base_pages}
+use Rattle.log_laws.specs.Records.{LogContent}
+use Rattle.log_laws.specs.Pages.{base_pages}
 use Rattle.audit.specs.FirstFault.{FirstFault}
 use Rattle.audit.specs.Base.{IsBaseOf, LawfulOver, FirstFaultOver, OneFirstFaultOver, NoFaultOfTheLawfulOver}
 use Rattle.audit.proofs.Kept.{lawful_kept, fault_kept}

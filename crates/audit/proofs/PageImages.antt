@@ -6,16 +6,16 @@ use Rattle.std.proofs.lemmas.List.{ext_get_or, get_or_default}
 use Rattle.page.specs.Image.{Image}
 use Rattle.std.specs.Prelude.{◌⊎◌}
 use Rattle.page.specs.declared.page.Page.{Page}
-use Rattle.wal.specs.Records.{LogRecord, Update, Compensation, History, ◌▸◌, first, last_lsn, record_at, base_lsn}
-use Rattle.wal.specs.Meaning.{BasePages, cell_of, replay, writes}
-use Rattle.wal.specs.Redo.{slots_in}
-use Rattle.wal.specs.Store.{NamesPages}
+use Rattle.log_laws.specs.Records.{LogRecord, Update, Compensation, History, ◌▸◌, first, last_lsn, record_at, base_lsn}
+use Rattle.log_laws.specs.Meaning.{BasePages, cell_of, replay, writes}
+use Rattle.log_laws.specs.Redo.{slots_in}
+use Rattle.log_laws.specs.Store.{NamesPages}
 use Rattle.wal.specs.Spelling.{Fits}
 use Rattle.audit.specs.Cells.{image_or, last_write, KeepsWriters}
 use Rattle.audit.specs.Pages.{page_lsn, log_at, writers_after, KeepsPage}
 use Rattle.audit.proofs.Cells.{last_write_within, image_in_last}
 use Rattle.audit.proofs.Noting.{put_there, left_there}
-use Rattle.wal.proofs.Histories.{first_all, first_first, size_of_first_le, record_in_first, first_base}
+use Rattle.log_laws.proofs.Histories.{first_all, first_first, size_of_first_le, record_in_first, first_base}
 use Rattle.page.specs.declared.profile.TheConstants.{SLOTS}
 
 -- BEGINNINGS

@@ -5,13 +5,13 @@ use Rattle.std.specs.Prelude.{Result, Ok, Err, Option, Some, None, OnOk, IfSome}
 use Rattle.page.specs.declared.fault.Fault.{Fault}
 use Rattle.page.specs.declared.fault.Fault.TheVariants.{NoResource, EndTooEarly, WrongCompensation}
 use Rattle.std.proofs.lemmas.Bool.{cases_Bool}
-use Rattle.wal.specs.Meaning.{BasePages}
-use Rattle.wal.specs.Records.{LogRecord, History, ◌▸◌, LogContent, history, last_lsn, first, base_lsn}
-use Rattle.wal.specs.Laws.{Obeys, ChainLaw, FinishLaw, CompensationLaw}
-use Rattle.wal.specs.Tail.{is_end}
-use Rattle.wal.specs.Store.{NamesPages}
-use Rattle.wal.proofs.Histories.{record_in_first, size_of_first_le}
-use Rattle.wal.proofs.Appended.{each_more}
+use Rattle.log_laws.specs.Meaning.{BasePages}
+use Rattle.log_laws.specs.Records.{LogRecord, History, ◌▸◌, LogContent, history, last_lsn, first, base_lsn}
+use Rattle.log_laws.specs.Laws.{Obeys, ChainLaw, FinishLaw, CompensationLaw}
+use Rattle.log_laws.specs.Tail.{is_end}
+use Rattle.log_laws.specs.Store.{NamesPages}
+use Rattle.log_laws.proofs.Histories.{record_in_first, size_of_first_le}
+use Rattle.log_laws.proofs.Appended.{each_more}
 use Rattle.audit.specs.Passing.{Begins}
 use Rattle.audit.specs.FirstFault.{BrokenAt, AreSound, FirstBroken, RecordFault}
 

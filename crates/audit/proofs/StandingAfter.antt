@@ -1,11 +1,11 @@
 -- The standing of a transaction, finished or not, after one more record.
 use Rattle.std.proofs.Common.{◌≡◌, ◌+◌, ℕ, true, false, cond, List, [], ◌∷◌, ◌++◌, length, refl, sym, ap, subst, ◌∙◌, inl, inr, eqb}
 use Rattle.std.proofs.lemmas.Bool.{cases_Bool, or_left, or_right, or_parts, both_ways, false≢true}
-use Rattle.wal.proofs.Filters.{is_of_tx}
-use Rattle.wal.specs.Records.{LogRecord, Update, Compensation, Commit, Abort, End, Prepare, History, ◌▸◌, last_lsn, base_lsn}
-use Rattle.wal.specs.Meaning.{is_of, is_end_of, committed, ended, finished}
-use Rattle.wal.specs.Laws.{FinishLaw}
-use Rattle.wal.specs.Tail.{tx_of}
+use Rattle.log_laws.proofs.Filters.{is_of_tx}
+use Rattle.log_laws.specs.Records.{LogRecord, Update, Compensation, Commit, Abort, End, Prepare, History, ◌▸◌, last_lsn, base_lsn}
+use Rattle.log_laws.specs.Meaning.{is_of, is_end_of, committed, ended, finished}
+use Rattle.log_laws.specs.Laws.{FinishLaw}
+use Rattle.log_laws.specs.Tail.{tx_of}
 use Rattle.audit.specs.declared.standing.Finish.{Finish}
 use Rattle.audit.specs.declared.standing.Finish.TheVariants.{Committed, Ended}
 use Rattle.audit.specs.declared.standing.Standing.{Standing}

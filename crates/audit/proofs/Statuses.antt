@@ -2,9 +2,9 @@
 use Rattle.std.proofs.Common.{◌≡◌, ◌+◌, ◌≤◌, ℕ, zero, suc, true, false, List, [], ◌∷◌, ◌++◌, length, get_or, drop, refl, sym, ap, subst, ◌∙◌, arith, eqb, eq-eqb, length-append, ◌-◌, ◌<◌, ◌⊎◌, inl, inr}
 use Rattle.std.proofs.Math.Seq.{get_or-append_seam}
 use Rattle.std.proofs.lemmas.List.{get_or_append_left}
-use Rattle.wal.proofs.Histories.{last_other}
-use Rattle.wal.specs.Records.{UpdateRecord, CompensationRecord, PlainRecord, LogRecord, Update, Compensation, Commit, Abort, End, Prepare, History, ◌▸◌, last_lsn, base_lsn}
-use Rattle.wal.specs.Meaning.{is_of, pending}
+use Rattle.log_laws.proofs.Histories.{last_other}
+use Rattle.log_laws.specs.Records.{UpdateRecord, CompensationRecord, PlainRecord, LogRecord, Update, Compensation, Commit, Abort, End, Prepare, History, ◌▸◌, last_lsn, base_lsn}
+use Rattle.log_laws.specs.Meaning.{is_of, pending}
 use Rattle.audit.specs.declared.status.Status.{Status}
 use Rattle.audit.specs.Statuses.{under, Linked, IsStatusOf, after}
 

@@ -5,8 +5,9 @@ use Rattle.std.specs.Prelude.{◌%◌, ◌⊎◌, is_some}
 use Rattle.std.specs.Ordering.{nat_cmp}
 use Rattle.std.specs.BTreeMap.{get}
 use Rattle.std.proofs.Math.Nat.{mod-lt}
-use Rattle.wal.specs.Records.{LogRecord, Prepare, History, start, ◌▸◌, last_lsn}
-use Rattle.wal.specs.Meaning.{is_of, is_prepare_of, has, prepared, aborted, in_doubt, is_unfinished, finished, last_of}
+use Rattle.log_laws.specs.Records.{LogRecord, Prepare, History, start, ◌▸◌, last_lsn}
+use Rattle.log_laws.specs.Meaning.{is_of, is_prepare_of, has, prepared, aborted, in_doubt, is_unfinished, finished, last_of}
+use Rattle.log_laws.proofs.Histories.{has_none, has_some}
 use Rattle.audit.specs.declared.status.Status.{Status}
 use Rattle.audit.specs.declared.standing.Finish.{Finish}
 use Rattle.audit.specs.declared.unfinished_table.UnfinishedTable.{UnfinishedTable}
@@ -15,22 +16,6 @@ use Rattle.audit.specs.Unfinished.{unfinished_in, own_or, IsPlaced, IsOther}
 use Rattle.audit.specs.Standings.{IsStandingOf, standing_by}
 use Rattle.audit.proofs.StandingAfter.{finished_so}
 use Rattle.audit.specs.declared.unfinished_table.TheConstants.{PLACES}
-
-pub has_none : (t : ℕ) (log : History) → last_of t log ≡ 0 → has (is_of t) log ≡ false
-has_none t (start _) h = refl
-has_none t (log ▸ r) h =
-    elim (cases_Bool (is_of t r)) [
-      | inl e ↦ absurd (let f : suc (last_lsn log) ≡ 0 = rw e at h in omega (arith, f))
-      | inr e ↦ rw e (has_none t log (rw e at h))
-    ]
-
-pub has_some : (t : ℕ) (log : History) → (last_of t log ≡ 0 → ⊥) → has (is_of t) log ≡ true
-has_some t (start _) h = absurd (h refl)
-has_some t (log ▸ r) h =
-    elim (cases_Bool (is_of t r)) [
-      | inl e ↦ rw e refl
-      | inr e ↦ rw e (has_some t log (λ z. h (rw e z)))
-    ]
 
 -- a transaction that has not finished is unfinished if and only if it has a record
 pub begun_is : (t : ℕ) (log : History) (links : List ℕ) (s : Status) → IsStatusOf links t log s → not (eqb s.last 0) ≡ is_unfinished t log

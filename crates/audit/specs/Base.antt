@@ -4,9 +4,9 @@ use Rattle.page.specs.declared.fault.Fault.{Fault}
 use Rattle.page.specs.declared.fault.Fault.TheVariants.{BadBase}
 use Rattle.page.specs.Causes.{HasOneCause, HasNoCause}
 use Rattle.page.specs.Store.{StoreContent}
-use Rattle.wal.specs.Records.{LogContent, history, base_lsn}
-use Rattle.wal.specs.Pages.{base_pages}
-use Rattle.wal.specs.Store.{Lawful}
+use Rattle.log_laws.specs.Records.{LogContent, history, base_lsn}
+use Rattle.log_laws.specs.Pages.{base_pages}
+use Rattle.log_laws.specs.Store.{Lawful}
 use Rattle.audit.specs.FirstFault.{FirstFault}
 
 -- it has as many pages as the log's store, and no PageLSN is that of a record of the log

@@ -2,8 +2,8 @@
 use Rattle.page.specs.Image.{Image}
 use Rattle.std.specs.Prelude.{Option, Some, None, ◌≡◌, ◌<◌, ◌+◌, ◌*◌, ℕ, suc, List, length, IfSome, if◌then◌else◌, slice_index_or, slice_set}
 use Rattle.std.specs.Option.{option_map_or}
-use Rattle.wal.specs.Records.{LogRecord, History, start, ◌▸◌, last_lsn}
-use Rattle.wal.specs.Meaning.{BasePages, owner, change_of, image_of, writes, replay}
+use Rattle.log_laws.specs.Records.{LogRecord, History, start, ◌▸◌, last_lsn}
+use Rattle.log_laws.specs.Meaning.{BasePages, owner, change_of, image_of, writes, replay}
 use Rattle.page.specs.declared.profile.TheConstants.{SLOTS}
 use Rattle.audit.specs.declared.cell.Cell.{Cell}
 
@@ -11,11 +11,6 @@ use Rattle.audit.specs.declared.cell.Cell.{Cell}
 abbrev pub last_write : ℕ → ℕ → History → ℕ
 last_write page slot (start _) = 0
 last_write page slot (log ▸ r) = if writes page slot r then suc (last_lsn log) else last_write page slot log
-
--- and its transaction
-abbrev pub last_writer : ℕ → ℕ → History → Option ℕ
-last_writer page slot (start _) = None
-last_writer page slot (log ▸ r) = if writes page slot r then owner r else last_writer page slot log
 
 -- what the record at an LSN left in a cell; without a record, what was there before
 abbrev pub image_or : Image → Option LogRecord → Image

@@ -2,8 +2,8 @@
 use Rattle.std.specs.Prelude.{◌≡◌, ◌<◌, ◌≤◌, ℕ, suc, List, length, Option, Some, ◌==◌, ◌&&◌, nat_lt, if◌then◌else◌, slice_index, slice_set}
 use Rattle.page.specs.declared.page.Page.{Page}
 use Rattle.std.specs.Option.{option_map_or}
-use Rattle.wal.specs.Records.{History, start, ◌▸◌, last_lsn}
-use Rattle.wal.specs.Meaning.{is_on}
+use Rattle.log_laws.specs.Records.{History, start, ◌▸◌, last_lsn}
+use Rattle.log_laws.specs.Meaning.{is_on}
 use Rattle.audit.specs.Pages.{page_lsn}
 
 -- the LSN of the first record on the page above its PageLSN, or 0

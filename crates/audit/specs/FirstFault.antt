@@ -3,14 +3,14 @@ use Rattle.std.specs.Prelude.{◌≡◌, ◌<◌, ◌≤◌, ◌⊎◌, ◌+◌,
 use Rattle.page.specs.declared.fault.Fault.{Fault}
 use Rattle.page.specs.declared.fault.Fault.TheVariants.{NoResource, NoSuchPage, Chain, AfterFinish, WrongCompensation, BeforeImage, DirtyWrite, EndTooEarly, PageAheadOfLog, PageImage, BadMaster, TransactionTable, DirtyTable}
 use Rattle.page.specs.declared.page.Page.{Page}
-use Rattle.wal.specs.Records.{LogRecord, TableEntry, History, LogContent, history, last_lsn, record_at, first, EachRecord}
-use Rattle.wal.specs.Meaning.{BasePages}
-use Rattle.wal.specs.Laws.{ChainLaw, FinishLaw, CompensationLaw, BeforeLaw, Strictness, IsLawful}
-use Rattle.wal.specs.Tail.{is_end}
-use Rattle.wal.specs.Pages.{PageLaw}
-use Rattle.wal.specs.Checkpoint.{DirtyLaw, checkpoint_at, true_table}
-use Rattle.wal.specs.Store.{NamesPages, Lawful}
-use Rattle.wal.specs.Redo.{rec_lsn_of}
+use Rattle.log_laws.specs.Records.{LogRecord, TableEntry, History, LogContent, history, last_lsn, record_at, first, EachRecord}
+use Rattle.log_laws.specs.Meaning.{BasePages}
+use Rattle.log_laws.specs.Laws.{ChainLaw, FinishLaw, CompensationLaw, BeforeLaw, Strictness, IsLawful}
+use Rattle.log_laws.specs.Tail.{is_end}
+use Rattle.log_laws.specs.Pages.{PageLaw}
+use Rattle.log_laws.specs.Checkpoint.{DirtyLaw, checkpoint_at, true_table}
+use Rattle.log_laws.specs.Store.{NamesPages, Lawful}
+use Rattle.log_laws.specs.Redo.{rec_lsn_of}
 use Rattle.page.specs.Causes.{HasOneCause, HasNoCause}
 use Rattle.page.specs.Store.{StoreContent}
 

@@ -9,5 +9,4 @@ pub mod FirstFault
 pub mod Base
 pub mod Passing
 pub mod Pages
-pub mod Checkpoints
 pub mod Dirty

@@ -2,7 +2,7 @@
 use Rattle.std.specs.Prelude.{◌≡◌, ◌<◌, ◌+◌, ◌*◌, ℕ, List, [], Option, nat_le, if◌then◌else◌, slice_index, slice_index_or, slice_set}
 use Rattle.page.specs.declared.page.Page.{Page}
 use Rattle.std.specs.Option.{option_map_or}
-use Rattle.wal.specs.Records.{History, first}
+use Rattle.log_laws.specs.Records.{History, first}
 use Rattle.audit.specs.Cells.{last_write}
 use Rattle.page.specs.declared.profile.TheConstants.{SLOTS}
 

@@ -1,8 +1,8 @@
 -- What is kept while the records are read (own).
 use Rattle.std.specs.Prelude.{◌≡◌, ◌≤◌, ◌⊎◌, ℕ, length, Option, Some, None, ◌+◌, ⊤}
 use Rattle.page.specs.Image.{Image}
-use Rattle.wal.specs.Records.{LogRecord, Update, History, LogContent, history, last_lsn, record_at, base_lsn}
-use Rattle.wal.specs.Meaning.{BasePages}
+use Rattle.log_laws.specs.Records.{LogRecord, Update, History, LogContent, history, last_lsn, record_at, base_lsn}
+use Rattle.log_laws.specs.Meaning.{BasePages}
 use Rattle.audit.specs.declared.status.Status.{Status}
 use Rattle.audit.specs.declared.audit_state.AuditState.{AuditState}
 use Rattle.audit.specs.Standings.{IsStandingOf, standing_in}

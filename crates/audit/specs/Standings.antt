@@ -1,7 +1,7 @@
 -- The standings of the transactions, finished or not (own).
 use Rattle.std.specs.Prelude.{◌≡◌, ℕ, List, Option, Some, None, Bool, true, false}
-use Rattle.wal.specs.Records.{LogRecord, Commit, End, History}
-use Rattle.wal.specs.Meaning.{committed, ended, is_commit_of, is_end_of}
+use Rattle.log_laws.specs.Records.{LogRecord, Commit, End, History}
+use Rattle.log_laws.specs.Meaning.{committed, ended, is_commit_of, is_end_of}
 use Rattle.audit.specs.declared.status.Status.{Status}
 use Rattle.audit.specs.declared.standing.Finish.{Finish}
 use Rattle.audit.specs.declared.standing.Finish.TheVariants.{Committed, Ended}

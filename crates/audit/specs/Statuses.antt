@@ -1,7 +1,7 @@
 -- What the records so far say of an unfinished transaction (own).
 use Rattle.std.specs.Prelude.{◌≡◌, ◌<◌, ◌≤◌, ℕ, zero, suc, List, [], ◌∷◌, length, true, false, slice_index, ◌+◌, ◌-◌, ◌⊎◌}
-use Rattle.wal.specs.Records.{LogRecord, Update, Compensation, Abort, Prepare, History, base_lsn}
-use Rattle.wal.specs.Meaning.{finished, aborted, prepared, pending, last_of, undo_next_of}
+use Rattle.log_laws.specs.Records.{LogRecord, Update, Compensation, Abort, Prepare, History, base_lsn}
+use Rattle.log_laws.specs.Meaning.{finished, aborted, prepared, pending, last_of, undo_next_of}
 use Rattle.audit.specs.declared.status.Status.{Status}
 
 -- the LSN below an LSN on a stack, 0 for none: there is a link for each LSN after the base LSN

@@ -2,14 +2,14 @@
 
 ghost use Rattle.std.specs.Prelude.{◌≡◌, ◌+◌, ◌≤◌, ℕ, length, IfOk, OnOk, IsOkUnless};
 ghost use Rattle.page.specs.declared.fault.Fault.TheVariants.{NoResource};
-ghost use Rattle.wal.specs.Records.{History, start, ◌▸◌, last_lsn};
-ghost use Rattle.wal.specs.Pages.{base_pages};
-ghost use Rattle.wal.specs.Meaning.{BasePages};
-ghost use Rattle.wal.specs.Laws.{FinishLaw};
-ghost use Rattle.wal.specs.Store.{NamesPages};
+ghost use Rattle.log_laws.specs.Records.{History, start, ◌▸◌, last_lsn};
+ghost use Rattle.log_laws.specs.Pages.{base_pages};
+ghost use Rattle.log_laws.specs.Meaning.{BasePages};
+ghost use Rattle.log_laws.specs.Laws.{FinishLaw};
+ghost use Rattle.log_laws.specs.Store.{NamesPages};
 ghost use Rattle.wal.specs.Spelling.{Fits};
 ghost use Rattle.wal.specs.Content.{shown};
-ghost use Rattle.wal.specs.Tail.{tx_of};
+ghost use Rattle.log_laws.specs.Tail.{tx_of};
 ghost use Rattle.audit.specs.Statuses.{IsTop};
 ghost use Rattle.audit.specs.Standings.{newest_of, standing_in};
 ghost use Rattle.audit.specs.Cells.{HasCell};

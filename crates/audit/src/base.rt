@@ -1,8 +1,8 @@
 //! The base pages of a log: what pages held before its first record.
 
 ghost use Rattle.std.specs.Prelude.{◌≡◌, IsTrue, ◌↔◌, ◌≤◌, All};
-ghost use Rattle.wal.specs.Records.{history, base_lsn};
-ghost use Rattle.wal.specs.Pages.{base_pages};
+ghost use Rattle.log_laws.specs.Records.{history, base_lsn};
+ghost use Rattle.log_laws.specs.Pages.{base_pages};
 ghost use Rattle.audit.specs.Base.{IsBaseOf};
 
 use page::{Page, Store, Value};

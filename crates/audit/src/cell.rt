@@ -3,8 +3,8 @@
 ghost use Rattle.std.specs.Prelude.{◌≡◌, ◌≤◌, ◌*◌, ℕ, length, IfOk, IsOkUnless};
 ghost use Rattle.page.specs.declared.fault.Fault.TheVariants.{NoResource};
 ghost use Rattle.page.specs.declared.profile.TheConstants.{PAGES, SLOTS};
-ghost use Rattle.wal.specs.Records.{start, history, base_lsn, last_lsn};
-ghost use Rattle.wal.specs.Pages.{base_pages};
+ghost use Rattle.log_laws.specs.Records.{start, history, base_lsn, last_lsn};
+ghost use Rattle.log_laws.specs.Pages.{base_pages};
 ghost use Rattle.wal.specs.Spelling.{Fits};
 ghost use Rattle.wal.specs.Content.{shown};
 ghost use Rattle.audit.specs.Cells.{HasCell, KeepsCells, cell_in, cells_after};

@@ -2,12 +2,12 @@
 
 ghost use Rattle.std.specs.Prelude.{◌≡◌, ◌+◌, ◌*◌, ◌≤◌, ◌<◌, ◌↔◌, ℕ, List, All, IsTrue, Some, length, option_map, slice_index_or};
 ghost use Rattle.page.specs.Image.{Image};
-ghost use Rattle.wal.specs.Records.{LogRecord, History, history, last_lsn, record_at, base_lsn};
-ghost use Rattle.wal.specs.Meaning.{BasePages};
-ghost use Rattle.wal.specs.Laws.{IsLawful, ChainLaw, FinishLaw, CompensationLaw, BeforeLaw, Strictness};
-ghost use Rattle.wal.specs.Store.{NamesPages};
+ghost use Rattle.log_laws.specs.Records.{LogRecord, History, history, last_lsn, record_at, base_lsn};
+ghost use Rattle.log_laws.specs.Meaning.{BasePages};
+ghost use Rattle.log_laws.specs.Laws.{IsLawful, ChainLaw, FinishLaw, CompensationLaw, BeforeLaw, Strictness};
+ghost use Rattle.log_laws.specs.Store.{NamesPages};
 ghost use Rattle.wal.specs.Spelling.{Fits};
-ghost use Rattle.wal.specs.Tail.{tx_of};
+ghost use Rattle.log_laws.specs.Tail.{tx_of};
 ghost use Rattle.wal.specs.Content.{shown};
 ghost use Rattle.audit.specs.Standings.{IsStandingOf, standing_in, is_finish_of, is_some_with};
 ghost use Rattle.audit.specs.Unfinished.{unfinished_in};

@@ -3,10 +3,10 @@
 ghost use Rattle.std.specs.Prelude.{◌≡◌, ◌+◌, ◌≤◌, ◌<◌, ◌↔◌, ℕ, All, IsTrue, Option, Some, ◌==◌, if◌then◌else◌, length, slice_index_or, take, IfOk, OnOk, IfErr, IfSome, IsOkUnless};
 ghost use Rattle.page.specs.Store.{AreNumbered};
 ghost use Rattle.page.specs.declared.fault.Fault.TheVariants.{NoResource};
-ghost use Rattle.wal.specs.Records.{history, first, last_lsn, EachRecord, base_lsn};
-ghost use Rattle.wal.specs.Redo.{rec_lsn_of};
-ghost use Rattle.wal.specs.Checkpoint.{DirtyLaw};
-ghost use Rattle.wal.specs.Store.{NamesPages};
+ghost use Rattle.log_laws.specs.Records.{history, first, last_lsn, EachRecord, base_lsn};
+ghost use Rattle.log_laws.specs.Redo.{rec_lsn_of};
+ghost use Rattle.log_laws.specs.Checkpoint.{DirtyLaw};
+ghost use Rattle.log_laws.specs.Store.{NamesPages};
 ghost use Rattle.audit.specs.Pages.{page_lsn};
 ghost use Rattle.audit.specs.Dirty.{KeepsMissing, missing_after, IsRecLsnInRange, IsCovered};
 ghost use Rattle.audit.specs.FirstFault.{KeepsDirty, DirtyFault};

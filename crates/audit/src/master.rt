@@ -1,9 +1,9 @@
 //! The law of the checkpoint that the master names.
 
 ghost use Rattle.std.specs.Prelude.{◌≡◌, ◌↔◌, IsTrue, length, option_map, OnOk, IfErr, IfSome};
-ghost use Rattle.wal.specs.Records.{history, first, EachRecord};
-ghost use Rattle.wal.specs.Checkpoint.{checkpoint_at, true_table, CheckpointLaw};
-ghost use Rattle.wal.specs.Store.{NamesPages};
+ghost use Rattle.log_laws.specs.Records.{history, first, EachRecord};
+ghost use Rattle.log_laws.specs.Checkpoint.{checkpoint_at, true_table, CheckpointLaw};
+ghost use Rattle.log_laws.specs.Store.{NamesPages};
 ghost use Rattle.page.specs.Store.{AreNumbered};
 ghost use Rattle.audit.specs.FirstFault.{MasterFault};
 

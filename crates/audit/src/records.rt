@@ -2,14 +2,15 @@
 
 ghost use Rattle.std.specs.Prelude.{◌≡◌, ℕ, ◌+◌, ◌*◌, ◌≤◌, ◌<◌, ◌↔◌, IsTrue, length, map, OnOk, IfOk, IfErr, IfSome, if◌then◌else◌};
 ghost use Rattle.page.specs.declared.fault.Fault.TheVariants.{WrongCompensation, EndTooEarly};
-ghost use Rattle.wal.specs.Records.{History, last_lsn, history, base_lsn, tx_in, first};
-ghost use Rattle.wal.specs.Meaning.{BasePages};
-ghost use Rattle.wal.specs.Laws.{IsLawful, Obeys};
-ghost use Rattle.wal.specs.Tail.{is_end, tx_of};
-ghost use Rattle.wal.specs.Checkpoint.{true_table};
-ghost use Rattle.wal.specs.Pages.{base_pages};
-ghost use Rattle.wal.specs.Store.{NamesPages};
-ghost use Rattle.wal.specs.Spelling.{Fits, IsRising};
+ghost use Rattle.log_laws.specs.Records.{History, last_lsn, history, base_lsn, tx_in, first};
+ghost use Rattle.log_laws.specs.Meaning.{BasePages};
+ghost use Rattle.log_laws.specs.Laws.{IsLawful, Obeys};
+ghost use Rattle.log_laws.specs.Tail.{is_end, tx_of};
+ghost use Rattle.log_laws.specs.Checkpoint.{true_table};
+ghost use Rattle.log_laws.specs.Pages.{base_pages};
+ghost use Rattle.log_laws.specs.Store.{NamesPages};
+ghost use Rattle.wal.specs.Spelling.{Fits};
+ghost use Rattle.log_laws.specs.Checkpoint.{IsRising};
 ghost use Rattle.wal.specs.Content.{shown};
 ghost use Rattle.audit.specs.Statuses.{IsTop};
 ghost use Rattle.audit.specs.Standings.{newest_of, standing_in};

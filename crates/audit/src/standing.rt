@@ -1,8 +1,8 @@
 //! The standing of a transaction, finished or not, after the records so far.
 
 ghost use Rattle.std.specs.Prelude.{◌≡◌, ◌↔◌, ℕ, List, IsTrue, false};
-ghost use Rattle.wal.specs.Records.{History};
-ghost use Rattle.wal.specs.Meaning.{finished, ended, aborted, prepared, in_doubt};
+ghost use Rattle.log_laws.specs.Records.{History};
+ghost use Rattle.log_laws.specs.Meaning.{finished, ended, aborted, prepared, in_doubt};
 ghost use Rattle.wal.specs.Content.{shown};
 ghost use Rattle.audit.specs.Standings.{IsStandingOf, newest_of, standing_after, is_finish_of};
 

@@ -3,7 +3,7 @@
 
 ghost use Rattle.std.specs.Prelude.{◌≡◌, ℕ, OnOk, IsOkUnless, if◌then◌else◌, is_some};
 ghost use Rattle.page.specs.declared.fault.Fault.TheVariants.{NoResource};
-ghost use Rattle.wal.specs.Meaning.{is_of};
+ghost use Rattle.log_laws.specs.Meaning.{is_of};
 ghost use Rattle.wal.specs.Content.{shown};
 ghost use Rattle.audit.specs.Statuses.{unknown};
 ghost use Rattle.audit.specs.Unfinished.{unfinished_in};

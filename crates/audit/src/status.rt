@@ -1,7 +1,7 @@
 //! The status of an unfinished transaction after the records so far.
 
 ghost use Rattle.std.specs.Prelude.{◌≡◌};
-ghost use Rattle.wal.specs.Tail.{tx_of};
+ghost use Rattle.log_laws.specs.Tail.{tx_of};
 ghost use Rattle.wal.specs.Content.{shown};
 ghost use Rattle.audit.specs.Statuses.{under, unknown, after, IsTop};
 

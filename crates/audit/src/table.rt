@@ -5,15 +5,15 @@ ghost use Rattle.std.specs.Prelude.{◌≡◌, ◌==◌, ◌||◌, ◌↔◌, �
 ghost use Rattle.std.specs.Ordering.{nat_cmp};
 ghost use Rattle.std.specs.BTreeSet.{contains};
 ghost use Rattle.page.specs.declared.fault.Fault.TheVariants.{NoResource};
-ghost use Rattle.wal.specs.Records.{tx_in, History};
-ghost use Rattle.wal.specs.Meaning.{state_by, is_unfinished};
-ghost use Rattle.wal.specs.Checkpoint.{true_table};
-ghost use Rattle.wal.specs.Spelling.{IsRising};
+ghost use Rattle.log_laws.specs.Records.{tx_in, History};
+ghost use Rattle.log_laws.specs.Meaning.{state_by, is_unfinished};
+ghost use Rattle.log_laws.specs.Checkpoint.{true_table};
+ghost use Rattle.log_laws.specs.Checkpoint.{IsRising};
 ghost use Rattle.wal.specs.Content.{entry_of};
 ghost use Rattle.audit.specs.Statuses.{IsStatusOf};
 ghost use Rattle.audit.specs.Standings.{IsStandingOf, standing_in};
 ghost use Rattle.audit.specs.Unfinished.{IsPlaced, IsOther};
-ghost use Rattle.audit.specs.Checkpoints.{IsTrueEntry, Lists};
+ghost use Rattle.log_laws.specs.Checkpoint.{IsTrueEntry, Lists};
 
 use crate::standing::Standing;
 use crate::standings::Standings;

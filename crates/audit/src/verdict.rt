@@ -2,10 +2,10 @@
 
 ghost use Rattle.std.specs.Prelude.{◌≡◌, option_map, OnOk, IfErr, IsOkUnless};
 ghost use Rattle.page.specs.declared.fault.Fault.TheVariants.{NoResource};
-ghost use Rattle.wal.specs.Meaning.{BaseLaw, no_base};
-ghost use Rattle.wal.specs.Records.{history};
-ghost use Rattle.wal.specs.Pages.{base_pages};
-ghost use Rattle.wal.specs.Store.{Lawful};
+ghost use Rattle.log_laws.specs.Meaning.{BaseLaw, no_base};
+ghost use Rattle.log_laws.specs.Records.{history};
+ghost use Rattle.log_laws.specs.Pages.{base_pages};
+ghost use Rattle.log_laws.specs.Store.{Lawful};
 ghost use Rattle.audit.specs.FirstFault.{FirstFault};
 ghost use Rattle.audit.specs.Base.{LawfulOver, FirstFaultOver};
 

@@ -5,15 +5,15 @@ use Rattle.std.proofs.lemmas.List.{append-nil, drop-append-le, drop_at, length-t
 use Rattle.page.specs.declared.fault.Fault.{Fault}
 use Rattle.page.specs.declared.fault.Fault.TheVariants.{BadLength, BadRecord, BadLsn}
 use Rattle.page.proofs.BigEndian.{AreBytes, AreBytes-drop}
-use Rattle.wal.specs.declared.header.LogStart.{LogStart}
-use Rattle.wal.specs.Records.{LogRecord, LogContent, history, last_lsn, lsn_before, ◌⧺◌}
+use Rattle.log_laws.specs.declared.start.LogStart.{LogStart}
+use Rattle.log_laws.specs.Records.{LogRecord, LogContent, history, last_lsn, lsn_before, ◌⧺◌}
 use Rattle.wal.specs.Headers.{header_of, header_bytes, start_at}
 use Rattle.wal.specs.Spelling.{body, frame, Fits}
 use Rattle.wal.specs.Reading.{body_at}
 use Rattle.wal.specs.Frames.{body_of, length_of, next_at, size_in}
 use Rattle.wal.specs.Reads.{spellings, log_text, HasFault, HasFaultBehind, IsTorn, Reads}
 use Rattle.wal.proofs.Headers.{header_dropped, header_length, header_taken, start_small}
-use Rattle.wal.proofs.Histories.{size_of_log}
+use Rattle.log_laws.proofs.Histories.{size_of_log}
 use Rattle.wal.proofs.Loop.{next_is}
 use Rattle.wal.proofs.NextFrame.{sized}
 use Rattle.wal.proofs.Whole.{found_frame, frame_next}

@@ -1,8 +1,8 @@
 -- Where the log in some bytes begins and ends, and what follows it (own).
 use Rattle.std.specs.Prelude.{◌≡◌, ◌≢◌, ◌+◌, ◌-◌, ◌^◌, ◌<◌, ◌≤◌, ℕ, List, [], ◌∷◌, drop, length, take, Option, Some, Result, Ok}
 use Rattle.page.specs.declared.fault.Fault.{Fault}
-use Rattle.wal.specs.declared.header.LogStart.{LogStart}
-use Rattle.wal.specs.Records.{LogRecord, LogContent, ◌⧺◌}
+use Rattle.log_laws.specs.declared.start.LogStart.{LogStart}
+use Rattle.log_laws.specs.Records.{LogRecord, LogContent, ◌⧺◌}
 use Rattle.wal.specs.Frames.{next_at}
 use Rattle.wal.specs.Reads.{Cause, HasFault, IsTorn, Reads}
 use Rattle.pieces.specs.declared.mark.Mark.{Mark}

@@ -10,7 +10,7 @@ ghost use Rattle.cursor.specs.Ends.{IsFirst, IsNext, EndsAfter, HasFaultAt, next
 
 use page::Fault;
 use pieces::Mark;
-use wal::{RecordView, body_view, next_at, start_at};
+use wal::{RecordView, body_view, header_bytes, next_at, start_at};
 
 /// The mark before the first record of the log in these bytes. Only the header is read: 8 bytes, or
 /// 16 in version 2.
@@ -26,7 +26,7 @@ pub fn log_begin(bytes: &[u8]) -> Result<Mark, Fault>
     };
     Ok(Mark {
         lsn: begins.base(),
-        offset: begins.header_bytes() as u64,
+        offset: header_bytes(begins) as u64,
     })
 }
 

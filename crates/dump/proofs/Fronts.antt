@@ -3,11 +3,11 @@ use Rattle.std.proofs.Common.{ℕ, ◌≡◌, ◌+◌, ◌≤◌, List, [], ◌+
 use Rattle.std.proofs.lemmas.List.{take_at}
 use Rattle.page.specs.declared.fault.Fault.{Fault}
 use Rattle.page.specs.declared.fault.Fault.TheVariants.{NoResource, BadLength, BadRecord, BadLsn}
-use Rattle.wal.specs.Records.{LogContent, lsn_before}
+use Rattle.log_laws.specs.Records.{LogContent, lsn_before}
 use Rattle.wal.specs.Headers.{header_bytes, header_of}
 use Rattle.wal.specs.Frames.{Gives}
 use Rattle.wal.specs.Reads.{Reads, Cause, HasFaultBehind, spellings, log_text}
-use Rattle.wal.proofs.Histories.{size_of_log}
+use Rattle.log_laws.proofs.Histories.{size_of_log}
 use Rattle.dump.specs.LogLines.{fault_at}
 use Rattle.wal.proofs.Headers.{header_length}
 

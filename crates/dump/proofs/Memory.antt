@@ -2,7 +2,7 @@
 use Rattle.std.proofs.Common.{◌≡◌, ◌∙◌, ℕ, List, Option, Some, None, length, take, inl, inr, refl, sym, subst, take_all, Result, Ok, Err, IfErr, arith, ◌≤◌}
 use Rattle.std.specs.Io.KnownBytes.{Appends, Keeps}
 use Rattle.page.specs.declared.fault.Fault.TheVariants.{NoResource}
-use Rattle.wal.specs.Records.{LogContent}
+use Rattle.log_laws.specs.Records.{LogContent}
 use Rattle.wal.specs.Reads.{Reads}
 use Rattle.dump.specs.declared.style.Style.{Style}
 use Rattle.dump.specs.declared.choice.Choice.{Choice}

@@ -3,14 +3,14 @@ use Rattle.std.proofs.Common.{ℕ, suc, ◌≡◌, ◌+◌, ◌≤◌, true, fal
 use Rattle.std.specs.Prelude.{nat_lt, nat_eq}
 use Rattle.std.specs.List.{starts_with}
 use Rattle.std.proofs.lemmas.Bool.{cases_Bool, false≢true, true≢false}
-use Rattle.wal.specs.declared.header.LogStart.{LogStart}
-use Rattle.wal.specs.declared.header.LogStart.TheVariants.{Version1, Version2}
+use Rattle.log_laws.specs.declared.start.LogStart.{LogStart}
+use Rattle.log_laws.specs.declared.start.LogStart.TheVariants.{Version1, Version2}
 use Rattle.wal.specs.Headers.{header_bytes, header_of}
-use Rattle.wal.specs.Records.{LogRecord, History, start, ◌▸◌, ◌▸▸◌, LogContent, history, last_lsn, lsn_before, first}
+use Rattle.log_laws.specs.Records.{LogRecord, History, start, ◌▸◌, ◌▸▸◌, LogContent, history, last_lsn, lsn_before, first}
 use Rattle.wal.specs.Reads.{Reads, spellings, log_text}
 use Rattle.wal.specs.Spelling.{frame}
 use Rattle.wal.proofs.Headers.{header_length}
-use Rattle.wal.proofs.Histories.{first_more, record_above, record_within, size_of_first}
+use Rattle.log_laws.proofs.Histories.{first_more, record_above, record_within, size_of_first}
 use Rattle.dump.specs.LogLines.{place_behind, FramesStandThere}
 use Rattle.page.specs.declared.profile.TheConstants.{BASED_LOG_MAGIC}
 

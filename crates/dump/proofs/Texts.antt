@@ -6,7 +6,7 @@ use Rattle.std.proofs.lemmas.Grind.{flat_map-append}
 use Rattle.std.proofs.lemmas.List.{take_more}
 use Rattle.page.specs.Image.{Image}
 use Rattle.dump.specs.declared.style.Style.{Style}
-use Rattle.wal.specs.Records.{LogRecord, Update, Compensation, Commit, Abort, End, Prepare, CheckpointBegin, CheckpointEnd}
+use Rattle.log_laws.specs.Records.{LogRecord, Update, Compensation, Commit, Abort, End, Prepare, CheckpointBegin, CheckpointEnd}
 use Rattle.dump.specs.Line.{opening, closing, number_field}
 use Rattle.dump.specs.Record.{kind_word, record_line, record_fields, short_fields, table_fields}
 use Rattle.dump.specs.Tables.{listed}

@@ -1,7 +1,7 @@
 -- Which records are asked for (own).
 use Rattle.std.specs.Prelude.{ℕ, Bool, true, false, ◌==◌, ◌&&◌, not, nat_lt, Option, Some, None, option_map}
-use Rattle.wal.specs.Records.{LogRecord}
-use Rattle.wal.specs.Meaning.{owner, change_of}
+use Rattle.log_laws.specs.Records.{LogRecord}
+use Rattle.log_laws.specs.Meaning.{owner, change_of}
 use Rattle.dump.specs.declared.choice.Choice.{Choice}
 
 -- a number is the one that is asked for; if none is asked for, any number and none will do

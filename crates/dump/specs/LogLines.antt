@@ -3,9 +3,9 @@ use Rattle.std.specs.Prelude.{◌≡◌, ◌⊎◌, ℕ, suc, ◌+◌, List, [],
 use Rattle.std.specs.Io.KnownBytes.{Appends, Keeps}
 use Rattle.page.specs.declared.fault.Fault.{Fault}
 use Rattle.page.specs.declared.fault.Fault.TheVariants.{NoResource, BadLength, BadRecord, BadLsn}
-use Rattle.wal.specs.declared.header.LogStart.{LogStart}
-use Rattle.wal.specs.declared.header.LogStart.TheVariants.{Version1, Version2}
-use Rattle.wal.specs.Records.{LogRecord, History, start, ◌▸◌, LogContent, history, last_lsn, lsn_before, record_at, first}
+use Rattle.log_laws.specs.declared.start.LogStart.{LogStart}
+use Rattle.log_laws.specs.declared.start.LogStart.TheVariants.{Version1, Version2}
+use Rattle.log_laws.specs.Records.{LogRecord, History, start, ◌▸◌, LogContent, history, last_lsn, lsn_before, record_at, first}
 use Rattle.wal.specs.Headers.{header_bytes}
 use Rattle.wal.specs.Spelling.{frame}
 use Rattle.wal.specs.Reads.{Reads, Cause}

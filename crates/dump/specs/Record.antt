@@ -1,6 +1,6 @@
 -- The line of a record (own), in the words of the formats.
 use Rattle.std.specs.Prelude.{ℕ, List, [], ◌++◌, codes}
-use Rattle.wal.specs.Records.{LogRecord, Update, Compensation, Commit, Abort, End, Prepare, CheckpointBegin, CheckpointEnd}
+use Rattle.log_laws.specs.Records.{LogRecord, Update, Compensation, Commit, Abort, End, Prepare, CheckpointBegin, CheckpointEnd}
 use Rattle.dump.specs.declared.style.Style.{Style}
 use Rattle.dump.specs.Line.{opening, closing, number_field, image_field}
 use Rattle.dump.specs.Tables.{table_field, transaction_entry, dirty_entry}

@@ -1,9 +1,9 @@
 -- The tables of a checkpoint end within a line of a dump (own).
 use Rattle.std.specs.Prelude.{ℕ, List, [], ◌∷◌, ◌++◌, ◌==◌, if◌then◌else◌, codes, decimal}
 use Rattle.std.specs.List.{flat_map}
-use Rattle.wal.specs.declared.record.State.{State}
-use Rattle.wal.specs.declared.record.State.TheVariants.{Active, Aborting, Prepared}
-use Rattle.wal.specs.Records.{TableEntry}
+use Rattle.log_laws.specs.declared.state.State.{State}
+use Rattle.log_laws.specs.declared.state.State.TheVariants.{Active, Aborting, Prepared}
+use Rattle.log_laws.specs.Records.{TableEntry}
 use Rattle.dump.specs.declared.style.Style.{Style}
 use Rattle.dump.specs.declared.style.Style.TheVariants.{Text, Json}
 use Rattle.dump.specs.Line.{named, number_field, word_field}

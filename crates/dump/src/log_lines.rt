@@ -7,7 +7,7 @@ ghost use Rattle.page.specs.declared.fault.Fault.TheVariants.{NoResource};
 ghost use Rattle.wal.specs.Content.{shown};
 ghost use Rattle.wal.specs.Headers.{header_bytes};
 ghost use Rattle.wal.specs.Reads.{Reads, Cause};
-ghost use Rattle.wal.specs.Records.{LogContent, history, first};
+ghost use Rattle.log_laws.specs.Records.{LogContent, history, first};
 ghost use Rattle.wal.specs.Spelling.{Fits};
 ghost use Rattle.dump.specs.LogLines.{log_line, place_behind, line_if_asked, record_lines, torn_line, log_lines, ListsLog, ListsFront, ListsToFault, PrintsBeginning, PrintsFirstLines, IfMemory, fault_at, IsNoFault};
 
@@ -17,7 +17,7 @@ use crate::{Choice, Stop, Style};
 use page::Fault;
 use std::alloc::{AllocError, Global};
 use std::io::Write;
-use wal::{Log, LogStart, RecordView, read_log};
+use wal::{Log, LogStart, RecordView, header_bytes, read_log};
 
 /// The most bytes that the line of a header takes, and some more that are kept free.
 const HEADER_ROOM: usize = 112;
@@ -154,7 +154,7 @@ fn print_log<W: Write>(
     let mut line = Vec::new(alloc);
     put_start(&mut line, style, start)?;
     out.write_all(&line)?;
-    let header = start.header_bytes() as u64;
+    let header = header_bytes(start) as u64;
     let end = print_records(alloc, log, header, style, choice, out)?;
     print_torn_tail(torn as u64, end, style, &mut line, out)
 }

@@ -1,7 +1,7 @@
 -- What is kept, after one more step.
 use Rattle.std.proofs.Common.{◌≡◌, ◌+◌, ℕ, List, Option, arith}
-use Rattle.wal.specs.Records.{LogRecord, ◌▸◌}
-use Rattle.wal.specs.Meaning.{BasePages}
+use Rattle.log_laws.specs.Records.{LogRecord, ◌▸◌}
+use Rattle.log_laws.specs.Meaning.{BasePages}
 use Rattle.journal.specs.Runs.{Run, appended, reported, log_of, MayFollow}
 use Rattle.journal.specs.Transactions.{Transaction, AreTransactions}
 use Rattle.journal.specs.PageStates.{PageState, ArePageStates}

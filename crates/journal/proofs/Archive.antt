@@ -6,13 +6,13 @@ use Rattle.std.proofs.lemmas.List.{ext_get_or}
 use Rattle.std.proofs.lemmas.List.FromFn.{length-map-range_with_len, get_or-map-range_with_len}
 use Rattle.page.specs.declared.page.Page.{Page}
 use Rattle.page.specs.declared.profile.TheConstants.{SLOTS}
-use Rattle.wal.specs.declared.header.LogStart.{LogStart}
-use Rattle.wal.specs.declared.header.LogStart.TheVariants.{Version2}
-use Rattle.wal.specs.Records.{history, last_lsn}
-use Rattle.wal.specs.Meaning.{BasePages, replay}
-use Rattle.wal.specs.Pages.{base_pages}
-use Rattle.wal.specs.Store.{page_out}
-use Rattle.wal.specs.Theorems.{replayed_page}
+use Rattle.log_laws.specs.declared.start.LogStart.{LogStart}
+use Rattle.log_laws.specs.declared.start.LogStart.TheVariants.{Version2}
+use Rattle.log_laws.specs.Records.{history, last_lsn}
+use Rattle.log_laws.specs.Meaning.{BasePages, replay}
+use Rattle.log_laws.specs.Pages.{base_pages}
+use Rattle.log_laws.specs.Store.{page_out}
+use Rattle.log_laws.specs.Theorems.{replayed_page}
 use Rattle.journal.specs.Runs.{MayOpen, empty_log}
 use Rattle.journal.specs.Theorems.{ArchiveReopens}
 use Rattle.journal.proofs.Opened.{may_open}

@@ -2,10 +2,10 @@
 use Rattle.std.proofs.Common.{◌≡◌, ◌<◌, ◌≤◌, ℕ, suc, Bool, true, false, Some, sym, ap, ◌∙◌, arith, eqb, eqb-true, ltb, ltb-true, inl, inr}
 use Rattle.std.proofs.lemmas.Bool.{cases_Bool, or_right, or_parts, both_ways, false≢true}
 use Rattle.std.specs.Prelude.{is_some}
-use Rattle.wal.specs.Records.{LogRecord, Update, Compensation, History, start, ◌▸◌, last_lsn, record_at, first, EachRecord}
-use Rattle.wal.specs.Meaning.{BasePages, BaseLaw, has, committed, ended, is_of, change_of}
-use Rattle.wal.specs.Laws.{Obeys, IsLawful}
-use Rattle.wal.proofs.Histories.{record_more, record_within, base_of_first}
+use Rattle.log_laws.specs.Records.{LogRecord, Update, Compensation, History, start, ◌▸◌, last_lsn, record_at, first, EachRecord}
+use Rattle.log_laws.specs.Meaning.{BasePages, BaseLaw, has, committed, ended, is_of, change_of}
+use Rattle.log_laws.specs.Laws.{Obeys, IsLawful}
+use Rattle.log_laws.proofs.Histories.{record_more, record_within, base_of_first}
 
 -- what is found in it is found in the log
 pub found_in_first : (lsn : ℕ) (log : History) (n : ℕ) (r : LogRecord) → record_at (first lsn log) n ≡ Some r → record_at log n ≡ Some r

@@ -3,10 +3,10 @@ use Rattle.std.proofs.Common.{◌≡◌, ◌+◌, ℕ, false, cond, List, [], Op
 use Rattle.std.specs.Prelude.{All, reverse}
 use Rattle.std.proofs.lemmas.Bool.{cases_Bool, or_parts}
 use Rattle.std.proofs.lemmas.List.Elements.{All-nil}
-use Rattle.wal.specs.declared.record.State.TheVariants.{Active}
+use Rattle.log_laws.specs.declared.state.State.TheVariants.{Active}
 use Rattle.wal.specs.declared.record.Entry.{Entry}
-use Rattle.wal.specs.Records.{History, start, ◌▸◌}
-use Rattle.wal.specs.Meaning.{is_of, has}
+use Rattle.log_laws.specs.Records.{History, start, ◌▸◌}
+use Rattle.log_laws.specs.Meaning.{is_of, has}
 use Rattle.journal.specs.Transactions.{Pending}
 use Rattle.journal.specs.Transactions.{Transaction}
 use Rattle.journal.specs.Transactions.{IsPending, lsn_in, IsTransaction, AreTransactions}

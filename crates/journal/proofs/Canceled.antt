@@ -2,9 +2,9 @@
 use Rattle.std.proofs.Common.{◌≡◌, ◌≢◌, ◌<◌, ◌-◌, ℕ, true, false, cond, List, length, get_or, take, Option, None, refl, sym, ap, subst, ◌∙◌, inl, inr, arith, eqb, eq-eqb, ne_eqb, eqb-true}
 use Rattle.std.specs.List.{remove}
 use Rattle.std.proofs.lemmas.Bool.{cases_Bool, both_ways}
-use Rattle.wal.specs.Records.{History}
-use Rattle.wal.specs.Meaning.{BasePages, is_of, has, last_of}
-use Rattle.audit.proofs.Unfinished.{has_none, has_some}
+use Rattle.log_laws.specs.Records.{History}
+use Rattle.log_laws.specs.Meaning.{BasePages, is_of, has, last_of}
+use Rattle.log_laws.proofs.Histories.{has_none, has_some}
 use Rattle.journal.specs.declared.entries.Head.{Head}
 use Rattle.journal.specs.declared.entries.TransactionEntry.{TransactionEntry}
 use Rattle.journal.specs.declared.entries.PendingEntry.{PendingEntry}

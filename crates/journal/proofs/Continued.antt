@@ -2,10 +2,10 @@
 use Rattle.std.proofs.Common.{◌≡◌, ◌≢◌, ◌≤◌, ◌+◌, ◌-◌, ℕ, suc, true, false, cond, List, [], ◌∷◌, ◌++◌, length, take, map, Option, Some, None, refl, sym, ap, subst, ◌∙◌, inl, inr, arith, eqb, eq-eqb, ne_eqb, eqb-true, max}
 use Rattle.std.specs.Prelude.{reverse}
 use Rattle.std.proofs.lemmas.Bool.{cases_Bool, both_ways, false≢true, or_left, or_right, false_from_ne_true}
-use Rattle.wal.specs.declared.record.State.TheVariants.{Active, Prepared, Aborting}
-use Rattle.wal.specs.Records.{UpdateRecord, CompensationRecord, PlainRecord, LogRecord, Update, Compensation, Commit, Abort, End, Prepare, History, start, ◌▸◌, last_lsn}
-use Rattle.wal.specs.Meaning.{BasePages, is_of, has, finished, committed, ended, aborted, prepared, pending, state_at}
-use Rattle.wal.specs.Laws.{Obeys, Compensates}
+use Rattle.log_laws.specs.declared.state.State.TheVariants.{Active, Prepared, Aborting}
+use Rattle.log_laws.specs.Records.{UpdateRecord, CompensationRecord, PlainRecord, LogRecord, Update, Compensation, Commit, Abort, End, Prepare, History, start, ◌▸◌, last_lsn}
+use Rattle.log_laws.specs.Meaning.{BasePages, is_of, has, finished, committed, ended, aborted, prepared, pending, state_at}
+use Rattle.log_laws.specs.Laws.{Obeys, Compensates}
 use Rattle.journal.specs.Transactions.{Pending}
 use Rattle.journal.specs.Transactions.{Transaction}
 use Rattle.journal.specs.Transactions.{lsn_in, IsTransaction, AreTransactions, Noted, HasUpdated, HasUndone, HasChangedState, next_after}

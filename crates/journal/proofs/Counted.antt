@@ -5,10 +5,10 @@ use Rattle.std.specs.List.{sum_by}
 use Rattle.std.proofs.lemmas.Bool.{cases_Bool, cases_eq, cases_lt, or_cases, and_parts, both_ways}
 use Rattle.std.proofs.lemmas.List.Elements.{All-nil, All-cons, All-head, All-tail, All-weaker}
 use Rattle.std.proofs.lemmas.List.Sums.{sum_by-cons}
-use Rattle.wal.specs.Records.{History}
-use Rattle.wal.specs.Meaning.{is_of, has, finished, is_unfinished, pending}
-use Rattle.wal.specs.Tail.{numbers_from, above_all}
-use Rattle.wal.proofs.Filters.{tx_below}
+use Rattle.log_laws.specs.Records.{History}
+use Rattle.log_laws.specs.Meaning.{is_of, has, finished, is_unfinished, pending}
+use Rattle.log_laws.specs.Tail.{numbers_from, above_all}
+use Rattle.log_laws.proofs.Filters.{tx_below}
 use Rattle.journal.specs.declared.entries.TransactionEntry.{TransactionEntry}
 use Rattle.journal.specs.declared.entries.PendingEntry.{PendingEntry}
 use Rattle.journal.specs.Arrays.{is_by, pending_of, Ascends, is_live, AllLive}

@@ -8,8 +8,8 @@ use Rattle.std.proofs.lemmas.List.Edits.{length-insert}
 use Rattle.page.specs.declared.profile.TheConstants.{TRANSACTIONS}
 use Rattle.page.specs.declared.page.Page.{Page}
 use Rattle.page.specs.Store.{StoreContent}
-use Rattle.wal.specs.Records.{LogRecord, LogContent, History, ◌▸◌, history, first}
-use Rattle.wal.specs.Meaning.{BasePages, owner, is_of, is_owned_by, has, finished, is_unfinished}
+use Rattle.log_laws.specs.Records.{LogRecord, LogContent, History, ◌▸◌, history, first}
+use Rattle.log_laws.specs.Meaning.{BasePages, owner, is_of, is_owned_by, has, finished, is_unfinished}
 use Rattle.journal.specs.declared.entries.TransactionEntry.{TransactionEntry}
 use Rattle.journal.specs.declared.entries.PendingEntry.{PendingEntry}
 use Rattle.journal.specs.Transactions.{IsTransaction}

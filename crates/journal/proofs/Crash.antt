@@ -6,17 +6,17 @@ use Rattle.std.proofs.lemmas.Bool.{cases_eq}
 use Rattle.std.proofs.lemmas.List.FromFn.{get_or-map-range_with_len}
 use Rattle.page.specs.declared.page.Page.{Page}
 use Rattle.page.specs.Store.{StoreContent}
-use Rattle.wal.specs.Records.{History, LogContent, history, last_lsn, base_lsn, record_at, first, EachRecord}
-use Rattle.wal.specs.Meaning.{BasePages, BaseLaw, replay, winners, committed}
-use Rattle.wal.specs.Laws.{IsLawful}
-use Rattle.wal.specs.Redo.{slots_in, rec_lsn_of}
-use Rattle.wal.specs.Pages.{PageLaw}
-use Rattle.wal.specs.Checkpoint.{DirtyLaw, TablesLaw, CheckpointLaw, checkpoint_at, true_table}
-use Rattle.wal.specs.Store.{NamesPages, Lawful, page_out, store_out}
-use Rattle.wal.proofs.Histories.{record_in_first, first_first, size_of_first, size_of_first_le, base_of_first, base_within, up_to_is}
-use Rattle.wal.proofs.Checkpoints.{checkpoint_begins, checkpoint_ends, checkpoint_within}
-use Rattle.wal.proofs.Pages.{replayed_page_law, slot_held}
-use Rattle.wal.proofs.Settled.{store_settles}
+use Rattle.log_laws.specs.Records.{History, LogContent, history, last_lsn, base_lsn, record_at, first, EachRecord}
+use Rattle.log_laws.specs.Meaning.{BasePages, BaseLaw, replay, winners, committed}
+use Rattle.log_laws.specs.Laws.{IsLawful}
+use Rattle.log_laws.specs.Redo.{slots_in, rec_lsn_of}
+use Rattle.log_laws.specs.Pages.{PageLaw}
+use Rattle.log_laws.specs.Checkpoint.{DirtyLaw, TablesLaw, CheckpointLaw, checkpoint_at, true_table}
+use Rattle.log_laws.specs.Store.{NamesPages, Lawful, page_out, store_out}
+use Rattle.log_laws.proofs.Histories.{record_in_first, first_first, size_of_first, size_of_first_le, base_of_first, base_within, up_to_is}
+use Rattle.log_laws.proofs.Checkpoints.{checkpoint_begins, checkpoint_ends, checkpoint_within}
+use Rattle.log_laws.proofs.Pages.{replayed_page_law, slot_held}
+use Rattle.log_laws.proofs.Settled.{store_settles}
 use Rattle.journal.specs.Runs.{Run, log_before, count_of, content_of, log_of, on_disk, run_at, AreTrueTables, IsRun}
 use Rattle.journal.specs.Crash.{WasCurrent, IsMaster, Crashed}
 use Rattle.journal.specs.Theorems.{CrashIsLawful, Recovers, CrashRecovers}

@@ -4,13 +4,13 @@ use Rattle.std.specs.List.{AllByRecursion}
 use Rattle.std.specs.Int.{w32, to_be_bytes, from_be_bytes}
 use Rattle.std.proofs.lemmas.Bool.{cases_lt}
 use Rattle.std.proofs.lemmas.List.{take-append-le, length-take, take-append-drop}
-use Rattle.wal.specs.Records.{LogRecord, LogContent, history, ◌⧺◌, lsn_before, up_to, last_lsn}
-use Rattle.wal.specs.Meaning.{BasePages}
+use Rattle.log_laws.specs.Records.{LogRecord, LogContent, history, ◌⧺◌, lsn_before, up_to, last_lsn}
+use Rattle.log_laws.specs.Meaning.{BasePages}
 use Rattle.wal.specs.Spelling.{body, frame, Fits}
 use Rattle.wal.specs.Headers.{header_of, FitsStart}
 use Rattle.wal.specs.Frames.{length_of}
 use Rattle.wal.specs.Reads.{spellings, log_text, IsTorn, Reads}
-use Rattle.wal.proofs.Histories.{size_of_log}
+use Rattle.log_laws.proofs.Histories.{size_of_log}
 use Rattle.wal.proofs.Whole.{body_size, frame_length}
 use Rattle.journal.specs.Runs.{Run, opened, appended, reported, log_before, content_of, log_of, IsRun}
 use Rattle.journal.specs.Files.{FileReads}

@@ -1,10 +1,10 @@
 -- The records of a run can be written.
 use Rattle.std.proofs.lemmas.List.Elements.{All-from_recursion}
-use Rattle.wal.specs.Records.{EachRecord}
-use Rattle.wal.specs.Meaning.{BasePages}
+use Rattle.log_laws.specs.Records.{EachRecord}
+use Rattle.log_laws.specs.Meaning.{BasePages}
 use Rattle.wal.specs.Spelling.{Fits}
-use Rattle.wal.proofs.Histories.{each_found}
-use Rattle.wal.proofs.Appended.{each_more}
+use Rattle.log_laws.proofs.Histories.{each_found}
+use Rattle.log_laws.proofs.Appended.{each_more}
 use Rattle.journal.specs.Runs.{Run, opened, appended, reported, log_of, IsRun}
 
 pub each_fits : (base : BasePages) (run : Run) → IsRun base run → EachRecord Fits (log_of run)

@@ -3,9 +3,8 @@ use Rattle.std.proofs.Common.{◌≡◌, ◌<◌, ℕ, true, false, [], length, 
 use Rattle.std.specs.Prelude.{List, is_some}
 use Rattle.std.proofs.lemmas.Bool.{false≢true, cases_eq}
 use Rattle.page.specs.declared.profile.TheConstants.{SLOTS}
-use Rattle.wal.specs.Records.{UpdateRecord, History}
-use Rattle.wal.specs.Meaning.{BasePages, is_of, has}
-use Rattle.audit.specs.Cells.{last_writer}
+use Rattle.log_laws.specs.Records.{UpdateRecord, History}
+use Rattle.log_laws.specs.Meaning.{BasePages, is_of, has, last_writer}
 use Rattle.journal.specs.Transactions.{Transaction, IsFreeFor}
 use Rattle.journal.specs.PageStates.{PageState}
 use Rattle.journal.specs.Runs.{Run, log_of}

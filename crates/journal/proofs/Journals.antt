@@ -7,11 +7,11 @@ use Rattle.std.proofs.lemmas.List.{get_or-take, get_or-drop, get_or_default, len
 use Rattle.std.proofs.lemmas.List.Elements.{All-weaker, All-push, All-drop}
 use Rattle.page.specs.Image.{Image as Content}
 use Rattle.page.specs.declared.page.Page.{Page}
-use Rattle.wal.proofs.Pages.{slot_held}
+use Rattle.log_laws.proofs.Pages.{slot_held}
 use Rattle.page.specs.declared.profile.TheConstants.{TRANSACTIONS}
 use Rattle.page.specs.declared.profile.TheConstants.{SLOTS}
-use Rattle.wal.specs.Records.{CompensationRecord, Update, Compensation, Commit, Abort, End, Prepare}
-use Rattle.wal.specs.Meaning.{BasePages, pending, replay, last_of, last_on}
+use Rattle.log_laws.specs.Records.{CompensationRecord, Update, Compensation, Commit, Abort, End, Prepare}
+use Rattle.log_laws.specs.Meaning.{BasePages, pending, replay, last_of, last_on}
 use Rattle.wal.specs.Spelling.{Fits}
 use Rattle.journal.specs.declared.table.Need.TheVariants.{Working, NotAborting, NotPrepared}
 use Rattle.journal.specs.declared.image.Image.{Image}

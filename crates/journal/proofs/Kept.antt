@@ -2,11 +2,11 @@
 use Rattle.std.proofs.Common.{◌≡◌, ◌≤◌, ◌+◌, ◌*◌, ◌-◌, ℕ, List, [], ◌∷◌, ◌++◌, length, take, drop, map, refl, sym, ap, ap₂, subst, ◌∙◌, arith, append_assoc, append-nil, length-append}
 use Rattle.wal.specs.Headers.{header_of}
 use Rattle.std.proofs.lemmas.List.{take-append-drop, take_at, length-take-le, length-drop, drop-append-le, drop_all}
-use Rattle.wal.specs.Records.{TableEntry, LogRecord, CheckpointBegin, CheckpointEnd, history, last_lsn, lsn_before}
-use Rattle.wal.specs.Meaning.{BasePages}
+use Rattle.log_laws.specs.Records.{TableEntry, LogRecord, CheckpointBegin, CheckpointEnd, history, last_lsn, lsn_before}
+use Rattle.log_laws.specs.Meaning.{BasePages}
 use Rattle.wal.specs.Reads.{spellings}
 use Rattle.wal.specs.Spelling.{frame}
-use Rattle.wal.proofs.Histories.{size_of_log}
+use Rattle.log_laws.proofs.Histories.{size_of_log}
 use Rattle.page.specs.declared.profile.TheConstants.{TRANSACTIONS}
 use Rattle.journal.specs.declared.framing.TheConstants.{LONGEST_UNDO}
 use Rattle.journal.specs.declared.entries.Head.{Head}

@@ -8,16 +8,15 @@ use Rattle.std.proofs.lemmas.Bool.{cases_Bool, both_ways, and_from, not_from_fal
 use Rattle.std.proofs.lemmas.List.Elements.{All-nil, All-cons}
 use Rattle.std.proofs.lemmas.Map.Keys.{sorted_tail, below_from_sorted}
 use Rattle.wal.specs.Content.{entry_of}
-use Rattle.wal.specs.Records.{TableEntry, tx_in, History}
-use Rattle.wal.specs.Meaning.{is_of, has, finished, is_unfinished, last_of}
-use Rattle.wal.specs.Redo.{rec_lsn_of}
-use Rattle.wal.specs.Checkpoint.{true_entry, true_table}
+use Rattle.log_laws.specs.Records.{TableEntry, tx_in, History}
+use Rattle.log_laws.specs.Meaning.{is_of, has, finished, is_unfinished, last_of}
+use Rattle.log_laws.specs.Redo.{rec_lsn_of}
+use Rattle.log_laws.specs.Checkpoint.{true_entry, true_table, IsTrueEntry, Lists}
 use Rattle.wal.proofs.Entries.{is_eq-nat_cmp}
-use Rattle.wal.proofs.Rising.{RisesFrom, rises_rising}
-use Rattle.wal.proofs.Holders.{unfinished_has, unfinished_open}
-use Rattle.audit.specs.Checkpoints.{IsTrueEntry, Lists}
-use Rattle.audit.proofs.TrueTable.{table_is}
-use Rattle.audit.proofs.Unfinished.{has_none, has_some}
+use Rattle.log_laws.proofs.Rising.{RisesFrom, rises_rising, rises_more}
+use Rattle.log_laws.proofs.Holders.{unfinished_has, unfinished_open}
+use Rattle.log_laws.proofs.TrueTable.{table_is}
+use Rattle.log_laws.proofs.Histories.{has_none, has_some}
 use Rattle.journal.specs.Transactions.{Transaction}
 use Rattle.journal.specs.PageStates.{PageState}
 use Rattle.journal.specs.Transactions.{IsTransaction}
@@ -45,10 +44,6 @@ heads_behind e (f ∷ es) s =
 
 sorted_behind : (e : Row) (es : List Row) → IsStrictlySortedBy nat_cmp (keys_of (e ∷ es)) → IsStrictlySortedBy nat_cmp (keys_of es)
 sorted_behind e es s = sorted_tail nat_cmp e.0 (keys_of es) s
-
-pub rises_more : (a b : ℕ) (ns : List ℕ) → a ≤ b → RisesFrom b ns → RisesFrom a ns
-rises_more a b [] le h = tt
-rises_more a b (n ∷ ns) le h = (omega (arith, h.0), h.1)
 
 pub rises : (b : ℕ) (es : List Row) → IsStrictlySortedBy nat_cmp (keys_of es) → Heads b es → RisesFrom b (map tx_in (table es))
 rises b [] s h = tt

@@ -2,12 +2,12 @@
 use Rattle.std.proofs.Common.{◌≡◌, ◌≤◌, ℕ, Bool, true, ap, ◌∙◌, inl, inr, arith, ltb, List, [], ◌∷◌}
 use Rattle.std.proofs.lemmas.Bool.{cases_Bool, or_cases, or_right}
 use Rattle.page.specs.Store.{StoreContent}
-use Rattle.wal.specs.Records.{LogRecord, History, ◌▸◌, ◌▸▸◌, history, last_lsn, first}
-use Rattle.wal.specs.Meaning.{BasePages, has, committed, is_commit_of, is_prepare_of}
-use Rattle.wal.specs.Tail.{tail, with_tail}
-use Rattle.wal.proofs.Histories.{first_all}
-use Rattle.wal.proofs.Lists.{with_tail_is}
-use Rattle.wal.proofs.Settled.{restart_goes_on}
+use Rattle.log_laws.specs.Records.{LogRecord, History, ◌▸◌, ◌▸▸◌, history, last_lsn, first}
+use Rattle.log_laws.specs.Meaning.{BasePages, has, committed, is_commit_of, is_prepare_of}
+use Rattle.log_laws.specs.Tail.{tail, with_tail}
+use Rattle.log_laws.proofs.Histories.{first_all}
+use Rattle.log_laws.proofs.Lists.{with_tail_is}
+use Rattle.log_laws.proofs.Settled.{restart_goes_on}
 use Rattle.journal.specs.Runs.{Run, opened, appended, reported, log_before, log_of, IsRun}
 use Rattle.journal.specs.Traces.{Trace, run_of, forced, newest_store, MayBeOnDisk, KeepsRules, left_log}
 use Rattle.journal.specs.Lives.{Lasts, Lives, once, again, now, AreLived, was_forced, LivesSurvive}

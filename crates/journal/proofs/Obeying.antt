@@ -2,13 +2,11 @@
 use Rattle.std.proofs.Common.{◌≡◌, ◌≢◌, ◌&&◌, ℕ, true, [], Option, Some, None, refl, sym, ap, ◌∙◌, inl, inr}
 use Rattle.std.proofs.lemmas.Bool.{or_parts, or_cases, or_left, or_right, and_parts, both_ways}
 use Rattle.page.specs.Image.{Image}
-use Rattle.wal.specs.declared.record.State.TheVariants.{Active, Prepared, Aborting}
-use Rattle.wal.specs.Records.{UpdateRecord, CompensationRecord, PlainRecord, Update, Compensation, Commit, Abort, End, Prepare, History, start, ◌▸◌}
-use Rattle.wal.specs.Meaning.{BasePages, is_of, has, touches, writes, finished, committed, ended, in_doubt, replay, last_of}
-use Rattle.wal.specs.Laws.{IsLawful, Obeys, Compensates, Strictness}
-use Rattle.wal.proofs.Holders.{held, strict_from_holder}
-use Rattle.audit.specs.Cells.{last_writer}
-use Rattle.audit.proofs.Cells.{holder_wrote}
+use Rattle.log_laws.specs.declared.state.State.TheVariants.{Active, Prepared, Aborting}
+use Rattle.log_laws.specs.Records.{UpdateRecord, CompensationRecord, PlainRecord, Update, Compensation, Commit, Abort, End, Prepare, History, start, ◌▸◌}
+use Rattle.log_laws.specs.Meaning.{BasePages, is_of, has, touches, writes, finished, committed, ended, in_doubt, replay, last_of, last_writer}
+use Rattle.log_laws.specs.Laws.{IsLawful, Obeys, Compensates, Strictness}
+use Rattle.log_laws.proofs.Holders.{held, strict_from_holder, holder_wrote}
 use Rattle.journal.specs.Transactions.{Transaction}
 use Rattle.journal.specs.Transactions.{IsTransaction, AreTransactions, IsFreeFor}
 use Rattle.journal.proofs.Transactions.{active_flags, unprepared_flags, unaborted_flags, none_pending}

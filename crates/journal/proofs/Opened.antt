@@ -10,16 +10,16 @@ use Rattle.std.proofs.lemmas.Option.{slice_get_within, get_or_from_slice_get}
 use Rattle.page.specs.Image.{Image}
 use Rattle.page.specs.declared.page.Page.{Page}
 use Rattle.page.specs.Store.{AreNumbered}
-use Rattle.wal.specs.declared.header.LogStart.{LogStart}
-use Rattle.wal.specs.declared.header.LogStart.TheVariants.{Version1, Version2}
+use Rattle.log_laws.specs.declared.start.LogStart.{LogStart}
+use Rattle.log_laws.specs.declared.start.LogStart.TheVariants.{Version1, Version2}
 use Rattle.wal.specs.Headers.{FitsStart}
 use Rattle.wal.specs.declared.sizes.TheConstants.{LARGEST_BASE}
-use Rattle.wal.specs.Records.{History, start, lsn_before}
-use Rattle.wal.specs.Meaning.{BasePages, BaseLaw}
-use Rattle.wal.specs.Redo.{slots_in}
-use Rattle.wal.specs.Pages.{base_pages, held_in, lsn_of, PageLaw}
-use Rattle.wal.specs.Theorems.{replayed_page}
-use Rattle.wal.proofs.Pages.{replayed_page_law, slot_held}
+use Rattle.log_laws.specs.Records.{History, start, lsn_before}
+use Rattle.log_laws.specs.Meaning.{BasePages, BaseLaw}
+use Rattle.log_laws.specs.Redo.{slots_in}
+use Rattle.log_laws.specs.Pages.{base_pages, held_in, lsn_of, PageLaw}
+use Rattle.log_laws.specs.Theorems.{replayed_page}
+use Rattle.log_laws.proofs.Pages.{replayed_page_law, slot_held}
 use Rattle.journal.specs.Transactions.{Transaction}
 use Rattle.journal.specs.Runs.{new_run, MayOpen}
 use Rattle.journal.specs.PageStates.{first_page_state, IsPageState, ArePageStates}

@@ -5,14 +5,13 @@ use Rattle.std.proofs.lemmas.Bool.{or_left, or_right}
 use Rattle.std.proofs.lemmas.List.{get_or_default}
 use Rattle.page.specs.Image.{Image}
 use Rattle.page.specs.declared.page.Page.{Page}
-use Rattle.wal.specs.declared.record.State.TheVariants.{Active, Prepared, Aborting}
-use Rattle.wal.specs.Records.{UpdateRecord, CompensationRecord, LogRecord, Update, Compensation, Commit, Abort, End, Prepare, ◌▸◌, last_lsn}
-use Rattle.wal.specs.Meaning.{BasePages, is_of, is_on, committed, ended, finished, replay, last_of}
-use Rattle.wal.specs.Laws.{Obeys}
-use Rattle.wal.specs.Store.{NamesPages}
+use Rattle.log_laws.specs.declared.state.State.TheVariants.{Active, Prepared, Aborting}
+use Rattle.log_laws.specs.Records.{UpdateRecord, CompensationRecord, LogRecord, Update, Compensation, Commit, Abort, End, Prepare, ◌▸◌, last_lsn}
+use Rattle.log_laws.specs.Meaning.{BasePages, is_of, is_on, committed, ended, finished, replay, last_of, last_writer}
+use Rattle.log_laws.specs.Laws.{Obeys}
+use Rattle.log_laws.specs.Store.{NamesPages}
 use Rattle.wal.specs.Spelling.{Fits}
-use Rattle.wal.proofs.Pages.{slot_held}
-use Rattle.audit.specs.Cells.{last_writer}
+use Rattle.log_laws.proofs.Pages.{slot_held}
 use Rattle.journal.specs.Runs.{Run, appended, count_of, log_of, HasTrueTables}
 use Rattle.journal.specs.Transactions.{Pending, Transaction, IsTransaction, AreTransactions, IsFreeFor, Changes, HasUpdated, HasUndone, HasChangedState, IsNewest}
 use Rattle.journal.specs.PageStates.{PageState, IsPageState, ArePageStates, changed}

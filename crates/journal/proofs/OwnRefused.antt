@@ -12,8 +12,8 @@ use Rattle.journal.specs.Runs.{Run}
 use Rattle.journal.specs.Arrays.{IsValid, AllLive, is_live}
 use Rattle.page.specs.Store.{StoreContent}
 use Rattle.page.specs.declared.profile.TheConstants.{TRANSACTIONS}
-use Rattle.wal.specs.declared.header.LogStart.{LogStart}
-use Rattle.wal.specs.Records.{LogContent, history, first}
+use Rattle.log_laws.specs.declared.start.LogStart.{LogStart}
+use Rattle.log_laws.specs.Records.{LogContent, history, first}
 use Rattle.journal.specs.Refusals.{IsNotRoom, UpdateRefused, BeginRefused, OwnUpdateRefused, OwnBeginRefused}
 use Rattle.journal.specs.Opened.{NewRefused, OpenRefused, AreTooMany, OwnNewRefused, OwnOpenRefused, OpenRefusedFor}
 

@@ -7,13 +7,13 @@ use Rattle.std.proofs.lemmas.List.{get_or-set_same, get_or-set_other, length-set
 use Rattle.std.proofs.lemmas.List.FromFn.{length-map-range_with_len}
 use Rattle.page.specs.Image.{Image}
 use Rattle.page.specs.declared.page.Page.{Page}
-use Rattle.wal.specs.Records.{LogRecord, History, ◌▸◌, last_lsn, base_lsn, record_at}
-use Rattle.wal.specs.Meaning.{BasePages, BaseLaw, Cells, owner, replay, writes, is_on, image_of, last_on}
-use Rattle.wal.specs.Redo.{slots_in}
-use Rattle.wal.specs.Checkpoint.{DirtyLaw}
-use Rattle.wal.specs.Theorems.{replayed_page}
-use Rattle.wal.proofs.Histories.{record_within, base_within}
-use Rattle.wal.proofs.Pages.{writes_on, same_slots, slot_held, last_on_highest, last_on_within}
+use Rattle.log_laws.specs.Records.{LogRecord, History, ◌▸◌, last_lsn, base_lsn, record_at}
+use Rattle.log_laws.specs.Meaning.{BasePages, BaseLaw, Cells, owner, replay, writes, is_on, image_of, last_on}
+use Rattle.log_laws.specs.Redo.{slots_in}
+use Rattle.log_laws.specs.Checkpoint.{DirtyLaw}
+use Rattle.log_laws.specs.Theorems.{replayed_page}
+use Rattle.log_laws.proofs.Histories.{record_within, base_within}
+use Rattle.log_laws.proofs.Pages.{writes_on, same_slots, slot_held, last_on_highest, last_on_within}
 use Rattle.journal.specs.PageStates.{PageState}
 use Rattle.journal.specs.Runs.{Run, appended, reported, log_of, on_disk}
 use Rattle.journal.specs.PageStates.{IsPageState, ArePageStates, changed, rec_lsn_after, written}

@@ -1,9 +1,9 @@
 -- A transaction that has prepared is in doubt, committed or aborted.
 use Rattle.std.proofs.Common.{◌≡◌, ℕ, true, false, refl, sym, ap, ◌∙◌, inl, inr, ◌⊎◌, eqb, eqb-true}
 use Rattle.std.proofs.lemmas.Bool.{cases_Bool, or_left, or_right, or_parts, both_ways, false≢true}
-use Rattle.wal.specs.Records.{LogRecord, Update, Compensation, Commit, Abort, End, Prepare, CheckpointBegin, CheckpointEnd, History, start, ◌▸◌}
-use Rattle.wal.specs.Meaning.{BasePages, has, is_of, is_prepare_of, committed, aborted, ended, finished, prepared, in_doubt, is_winner}
-use Rattle.wal.specs.Laws.{IsLawful}
+use Rattle.log_laws.specs.Records.{LogRecord, Update, Compensation, Commit, Abort, End, Prepare, CheckpointBegin, CheckpointEnd, History, start, ◌▸◌}
+use Rattle.log_laws.specs.Meaning.{BasePages, has, is_of, is_prepare_of, committed, aborted, ended, finished, prepared, in_doubt, is_winner}
+use Rattle.log_laws.specs.Laws.{IsLawful}
 
 prepare_own : (t : ℕ) (r : LogRecord) → is_prepare_of t r ≡ true → is_of t r ≡ true
 prepare_own t (Prepare s) h = h

@@ -3,15 +3,14 @@ use Rattle.std.proofs.Common.{◌≡◌, ◌≢◌, ◌<◌, ◌-◌, not, ℕ, 
 use Rattle.std.specs.Prelude.{is_some, reverse}
 use Rattle.std.proofs.lemmas.Bool.{cases_Bool, and_left, and_right, and_from, or_from, false_from_ne_true}
 use Rattle.std.proofs.lemmas.List.Elements.{All-pop}
-use Rattle.wal.specs.declared.record.State.{State}
-use Rattle.wal.specs.declared.record.State.TheVariants.{Active, Aborting, Prepared}
-use Rattle.wal.specs.Records.{LogRecord, Update, CheckpointBegin, CheckpointEnd, History, start, ◌▸◌, last_lsn, EachRecord}
-use Rattle.wal.specs.Meaning.{BasePages, is_of, has, finished, is_unfinished, pending, touches}
+use Rattle.log_laws.specs.declared.state.State.{State}
+use Rattle.log_laws.specs.declared.state.State.TheVariants.{Active, Aborting, Prepared}
+use Rattle.log_laws.specs.Records.{LogRecord, Update, CheckpointBegin, CheckpointEnd, History, start, ◌▸◌, last_lsn, EachRecord}
+use Rattle.log_laws.specs.Meaning.{BasePages, is_of, has, finished, is_unfinished, pending, touches, last_writer}
 use Rattle.wal.specs.Spelling.{Fits}
-use Rattle.wal.proofs.Histories.{record_last, record_more}
+use Rattle.log_laws.proofs.Histories.{record_last, record_more}
 use Rattle.page.specs.declared.profile.TheConstants.{SLOTS}
-use Rattle.audit.specs.Cells.{last_writer}
-use Rattle.audit.proofs.Cells.{last_touches}
+use Rattle.log_laws.proofs.Holders.{last_touches}
 use Rattle.journal.specs.declared.refusal.Refusal.{Refusal}
 use Rattle.journal.specs.declared.refusal.Refusal.TheVariants.{UnknownTransaction, Forbidden, NoSuchPage, NoSuchSlot, Held}
 use Rattle.journal.specs.declared.table.Need.{Need}

@@ -5,17 +5,17 @@ use Rattle.std.proofs.lemmas.List.{take_all}
 use Rattle.std.proofs.lemmas.List.FromFn.{length-map-range_with_len, get_or-map-range_with_len}
 use Rattle.page.specs.declared.page.Page.{Page}
 use Rattle.page.specs.Store.{StoreContent, AreNumbered}
-use Rattle.wal.specs.Records.{LogContent, history, ◌⧺◌, lsn_before}
-use Rattle.wal.specs.Meaning.{BasePages, last_on}
-use Rattle.wal.specs.Tail.{tail_of, with_tail}
-use Rattle.wal.specs.Redo.{slots_in}
+use Rattle.log_laws.specs.Records.{LogContent, history, ◌⧺◌, lsn_before}
+use Rattle.log_laws.specs.Meaning.{BasePages, last_on}
+use Rattle.log_laws.specs.Tail.{tail_of, with_tail}
+use Rattle.log_laws.specs.Redo.{slots_in}
 use Rattle.wal.specs.Spelling.{Fits}
 use Rattle.wal.specs.Headers.{FitsStart}
-use Rattle.wal.specs.Store.{page_out, store_out}
-use Rattle.wal.specs.Theorems.{replayed_page}
-use Rattle.wal.proofs.Histories.{size_of_log}
-use Rattle.wal.proofs.Lists.{replay_is_winners}
-use Rattle.wal.proofs.Appended.{tail_fits}
+use Rattle.log_laws.specs.Store.{page_out, store_out}
+use Rattle.log_laws.specs.Theorems.{replayed_page}
+use Rattle.log_laws.proofs.Histories.{size_of_log}
+use Rattle.log_laws.proofs.Lists.{replay_is_winners}
+use Rattle.wal.proofs.TailFits.{tail_fits}
 use Rattle.journal.specs.Runs.{content_of}
 use Rattle.journal.specs.Theorems.{RestartReopens}
 use Rattle.journal.proofs.Crash.{crash_recovers}

@@ -3,17 +3,16 @@ use Rattle.std.proofs.Common.{◌≡◌, ◌≢◌, ◌<◌, ◌+◌, ◌^◌, n
 use Rattle.std.proofs.lemmas.Bool.{false≢true, or_parts, or_cases, or_left, or_right, and_from, both_ways}
 use Rattle.std.proofs.lemmas.List.{length-map}
 use lib.ListN.{length-reverse}
-use Rattle.wal.specs.declared.record.State.TheVariants.{Prepared}
-use Rattle.wal.specs.Records.{UpdateRecord, CompensationRecord, PlainRecord, LogRecord, Update, Compensation, Commit, Abort, End, Prepare, CheckpointBegin, CheckpointEnd, History, start, ◌▸◌, last_lsn, record_at, EachRecord}
-use Rattle.wal.specs.Meaning.{BasePages, is_of, has, committed, ended, finished, is_unfinished, state_at, pending, last_of}
-use Rattle.wal.specs.Laws.{Compensates}
-use Rattle.wal.specs.Store.{NamesPages}
-use Rattle.wal.specs.Tail.{is_among}
+use Rattle.log_laws.specs.declared.state.State.TheVariants.{Prepared}
+use Rattle.log_laws.specs.Records.{UpdateRecord, CompensationRecord, PlainRecord, LogRecord, Update, Compensation, Commit, Abort, End, Prepare, CheckpointBegin, CheckpointEnd, History, start, ◌▸◌, last_lsn, record_at, EachRecord}
+use Rattle.log_laws.specs.Meaning.{BasePages, is_of, has, committed, ended, finished, is_unfinished, state_at, pending, last_of}
+use Rattle.log_laws.specs.Laws.{Compensates}
+use Rattle.log_laws.specs.Store.{NamesPages}
+use Rattle.log_laws.specs.Tail.{is_among}
 use Rattle.wal.specs.Spelling.{Fits}
-use Rattle.wal.proofs.Histories.{record_last, record_more}
-use Rattle.wal.proofs.Stacks.{pending_found}
-use Rattle.wal.proofs.Holders.{unfinished_has, unfinished_open}
-use Rattle.audit.proofs.Finishing.{last_within}
+use Rattle.log_laws.proofs.Histories.{record_last, record_more, last_within}
+use Rattle.log_laws.proofs.Stacks.{pending_found}
+use Rattle.log_laws.proofs.Holders.{unfinished_has, unfinished_open}
 use Rattle.journal.specs.declared.entries.TransactionEntry.{TransactionEntry}
 use Rattle.journal.specs.declared.entries.PendingEntry.{PendingEntry}
 use Rattle.journal.specs.Runs.{Run, appended, count_of, log_of, MayFollow, IsRun}

@@ -2,11 +2,11 @@
 use Rattle.std.proofs.Common.{◌≡◌, ◌≢◌, ◌<◌, ◌≤◌, ◌+◌, not, ℕ, suc, Bool, true, false, List, [], ◌∷◌, ◌++◌, length, drop, Some, refl, sym, ap, subst, ◌∙◌, inl, inr, arith, eqb, eq-eqb, ne_eqb}
 use Rattle.std.proofs.lemmas.Bool.{cases_Bool, false≢true, or_left, or_right, and_from}
 use Rattle.std.proofs.lemmas.Option.{same_Some}
-use Rattle.wal.specs.declared.record.State.TheVariants.{Active, Aborting, Prepared}
-use Rattle.wal.specs.Records.{LogRecord, Update, Compensation, CompensationRecord, History, start, ◌▸◌, last_lsn, record_at}
-use Rattle.wal.specs.Tail.{is_among}
-use Rattle.wal.proofs.Stacks.{pending_found}
-use Rattle.wal.specs.Meaning.{BasePages, is_of, has, finished, state_at, pending}
+use Rattle.log_laws.specs.declared.state.State.TheVariants.{Active, Aborting, Prepared}
+use Rattle.log_laws.specs.Records.{LogRecord, Update, Compensation, CompensationRecord, History, start, ◌▸◌, last_lsn, record_at}
+use Rattle.log_laws.specs.Tail.{is_among}
+use Rattle.log_laws.proofs.Stacks.{pending_found}
+use Rattle.log_laws.specs.Meaning.{BasePages, is_of, has, finished, state_at, pending}
 use Rattle.journal.specs.declared.refusal.Refusal.{Refusal}
 use Rattle.journal.specs.declared.refusal.Refusal.TheVariants.{UnknownTransaction, Forbidden, NothingToUndo, StillPending}
 use Rattle.journal.specs.declared.table.Need.TheVariants.{NotPrepared}

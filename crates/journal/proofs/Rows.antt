@@ -5,15 +5,15 @@ use Rattle.std.proofs.lemmas.Bool.{false≢true}
 use Rattle.std.proofs.lemmas.List.Elements.{All-from_recursion, All-head}
 use Rattle.page.specs.declared.page.Page.{Page}
 use Rattle.page.specs.Store.{StoreContent, AreNumbered}
-use Rattle.wal.specs.declared.record.State.TheVariants.{Active}
-use Rattle.wal.specs.declared.header.LogStart.TheVariants.{Version1}
-use Rattle.wal.specs.Records.{TableEntry, LogRecord, CheckpointBegin, CheckpointEnd, LogContent, history, record_at}
-use Rattle.wal.specs.Meaning.{no_base, committed, is_on}
-use Rattle.wal.specs.Redo.{rec_lsn_of}
-use Rattle.wal.specs.Checkpoint.{DirtyLaw}
-use Rattle.wal.specs.Pages.{PageLaw}
-use Rattle.wal.specs.Store.{Lawful, store_out}
-use Rattle.wal.specs.Theorems.{replayed_page}
+use Rattle.log_laws.specs.declared.state.State.TheVariants.{Active}
+use Rattle.log_laws.specs.declared.start.LogStart.TheVariants.{Version1}
+use Rattle.log_laws.specs.Records.{TableEntry, LogRecord, CheckpointBegin, CheckpointEnd, LogContent, history, record_at}
+use Rattle.log_laws.specs.Meaning.{no_base, committed, is_on}
+use Rattle.log_laws.specs.Redo.{rec_lsn_of}
+use Rattle.log_laws.specs.Checkpoint.{DirtyLaw}
+use Rattle.log_laws.specs.Pages.{PageLaw}
+use Rattle.log_laws.specs.Store.{Lawful, store_out}
+use Rattle.log_laws.specs.Theorems.{replayed_page}
 use Rattle.wal.proofs.Rows.{a, U, K, L, holding, store_of, dirty_from_first}
 use Rattle.journal.specs.Runs.{Run, appended, reported, new_run, log_of, on_disk, run_at, MayFollow, IsRun}
 use Rattle.journal.specs.Crash.{WasCurrent, IsMaster, Crashed}

@@ -6,12 +6,12 @@ use Rattle.std.proofs.lemmas.List.Elements.{All-from_recursion}
 use Rattle.page.specs.declared.page.Page.{Page}
 use Rattle.page.specs.declared.profile.TheConstants.{SLOTS}
 use Rattle.page.specs.Store.{StoreContent}
-use Rattle.wal.specs.declared.header.LogStart.TheVariants.{Version2}
-use Rattle.wal.specs.Records.{history}
-use Rattle.wal.specs.Meaning.{BasePages, no_base, committed, touches, finished}
-use Rattle.wal.specs.Tail.{with_tail}
-use Rattle.wal.specs.Pages.{base_pages}
-use Rattle.wal.specs.Store.{store_out}
+use Rattle.log_laws.specs.declared.start.LogStart.TheVariants.{Version2}
+use Rattle.log_laws.specs.Records.{history}
+use Rattle.log_laws.specs.Meaning.{BasePages, no_base, committed, touches, finished}
+use Rattle.log_laws.specs.Tail.{with_tail}
+use Rattle.log_laws.specs.Pages.{base_pages}
+use Rattle.log_laws.specs.Store.{store_out}
 use Rattle.wal.proofs.Rows.{a, b, U, holding, store_of}
 use Rattle.journal.specs.Runs.{Run, appended, new_run, IsRun}
 use Rattle.journal.specs.Traces.{Trace, opens, appends, run_of, left_log, newest_store}

@@ -2,12 +2,12 @@
 use Rattle.std.proofs.Common.{◌≡◌, ◌≤◌, ℕ, List, [], ◌∷◌, Option, Some, None, inl, inr, sym, ap, subst, arith}
 use Rattle.std.proofs.lemmas.List.Elements.{All-head}
 use Rattle.page.specs.declared.page.Page.{Page}
-use Rattle.wal.specs.Records.{TableEntry, CheckpointBegin, history}
-use Rattle.wal.specs.Meaning.{no_base}
-use Rattle.wal.specs.Checkpoint.{DirtyLaw}
-use Rattle.wal.specs.Redo.{rec_lsn_of}
-use Rattle.wal.specs.Pages.{PageLaw}
-use Rattle.wal.specs.Store.{Lawful}
+use Rattle.log_laws.specs.Records.{TableEntry, CheckpointBegin, history}
+use Rattle.log_laws.specs.Meaning.{no_base}
+use Rattle.log_laws.specs.Checkpoint.{DirtyLaw}
+use Rattle.log_laws.specs.Redo.{rec_lsn_of}
+use Rattle.log_laws.specs.Pages.{PageLaw}
+use Rattle.log_laws.specs.Store.{Lawful}
 use Rattle.wal.proofs.Rows.{a, U, K, L, holding, store_of}
 use Rattle.journal.specs.Traces.{forces, appends, KeepsRules}
 use Rattle.journal.proofs.Rows.{opening, cleaned_log, older_unlawful}

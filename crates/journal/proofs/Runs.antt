@@ -4,15 +4,15 @@ use Rattle.std.proofs.lemmas.Bool.{cases_Bool, and_parts, le-ltb}
 use Rattle.page.specs.declared.page.Page.{Page}
 use Rattle.page.specs.Store.{StoreContent}
 use Rattle.page.specs.declared.profile.TheConstants.{PAGES}
-use Rattle.wal.specs.Records.{TableEntry, LogRecord, CheckpointBegin, CheckpointEnd, History, start, ◌▸◌, LogContent, history, last_lsn, base_lsn, record_at, first, EachRecord}
-use Rattle.wal.specs.Meaning.{BasePages, BaseLaw, last_on}
-use Rattle.wal.specs.Laws.{IsLawful}
-use Rattle.wal.specs.Redo.{rec_lsn_of}
-use Rattle.wal.specs.Checkpoint.{DirtyLaw, CheckpointLaw, first_end, or_else, true_table}
-use Rattle.wal.specs.Store.{NamesPages}
-use Rattle.wal.proofs.Histories.{history_push, record_older, record_more, record_within, first_older}
-use Rattle.wal.proofs.Checkpoints.{first_end_none, first_end_after, checkpoint_begins, checkpoint_ends}
-use Rattle.wal.proofs.Appended.{each_more}
+use Rattle.log_laws.specs.Records.{TableEntry, LogRecord, CheckpointBegin, CheckpointEnd, History, start, ◌▸◌, LogContent, history, last_lsn, base_lsn, record_at, first, EachRecord}
+use Rattle.log_laws.specs.Meaning.{BasePages, BaseLaw, last_on}
+use Rattle.log_laws.specs.Laws.{IsLawful}
+use Rattle.log_laws.specs.Redo.{rec_lsn_of}
+use Rattle.log_laws.specs.Checkpoint.{DirtyLaw, CheckpointLaw, first_end, or_else, true_table}
+use Rattle.log_laws.specs.Store.{NamesPages}
+use Rattle.log_laws.proofs.Histories.{history_push, record_older, record_more, record_within, first_older}
+use Rattle.log_laws.proofs.Checkpoints.{first_end_none, first_end_after, checkpoint_begins, checkpoint_ends}
+use Rattle.log_laws.proofs.Appended.{each_more}
 use Rattle.journal.specs.Runs.{Run, opened, appended, reported, log_before, store_before, count_of, content_of, log_of, on_disk, run_at, AreTrueTables, MayOpen, IsRun}
 
 pub log_is : (run : Run) → history (content_of run) ≡ log_of run

@@ -8,9 +8,9 @@ use lib.ListN.{length-reverse}
 use Rattle.std.proofs.lemmas.List.Edits.{get_or-insert_at}
 use Rattle.std.proofs.lemmas.List.Elements.{All-weaker, All-push, All-set}
 use Rattle.page.specs.declared.profile.TheConstants.{TRANSACTIONS}
-use Rattle.wal.specs.Records.{start, UpdateRecord, CompensationRecord, PlainRecord, LogRecord, Update, Compensation, Commit, End, History, ◌▸◌, last_lsn}
-use Rattle.wal.specs.Meaning.{BasePages, is_of, has, finished, is_unfinished, pending}
-use Rattle.wal.specs.Laws.{Obeys}
+use Rattle.log_laws.specs.Records.{start, UpdateRecord, CompensationRecord, PlainRecord, LogRecord, Update, Compensation, Commit, End, History, ◌▸◌, last_lsn}
+use Rattle.log_laws.specs.Meaning.{BasePages, is_of, has, finished, is_unfinished, pending}
+use Rattle.log_laws.specs.Laws.{Obeys}
 use Rattle.journal.specs.declared.entries.TransactionEntry.{TransactionEntry}
 use Rattle.journal.specs.declared.entries.PendingEntry.{PendingEntry}
 use Rattle.journal.specs.Transactions.{Pending, Transaction, lsn_in, IsTransaction, AreTransactions, HasEntry, HasUpdated, HasUndone, HasChangedState, Noted, next_after}

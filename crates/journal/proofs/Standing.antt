@@ -1,8 +1,8 @@
 -- What is kept of the transactions, after one more record.
 use Rattle.std.proofs.Common.{◌≡◌, ◌≤◌, ◌||◌, ℕ, true, false, cond, Option, Some, None, refl, sym, ap, subst, ◌∙◌, inl, inr, eqb, ne_eqb, eqb-true}
 use Rattle.std.proofs.lemmas.Bool.{cases_Bool, or_cases, or_left, or_right, or_from, both_ways}
-use Rattle.wal.specs.Records.{LogRecord, History, ◌▸◌}
-use Rattle.wal.specs.Meaning.{is_of, has, finished, committed, ended, is_commit_of, is_end_of}
+use Rattle.log_laws.specs.Records.{LogRecord, History, ◌▸◌}
+use Rattle.log_laws.specs.Meaning.{is_of, has, finished, committed, ended, is_commit_of, is_end_of}
 use Rattle.journal.specs.Transactions.{Transaction}
 use Rattle.journal.specs.Transactions.{IsTransaction, AreTransactions}
 use Rattle.journal.proofs.Transactions.{transaction_other}

@@ -5,8 +5,8 @@ use Rattle.std.proofs.lemmas.List.{get_or-set_other}
 use Rattle.std.proofs.lemmas.Grind.{get_or-set_at}
 use Rattle.page.specs.declared.page.Page.{Page}
 use Rattle.page.specs.Store.{StoreContent}
-use Rattle.wal.specs.Records.{last_lsn}
-use Rattle.wal.specs.Meaning.{BasePages}
+use Rattle.log_laws.specs.Records.{last_lsn}
+use Rattle.log_laws.specs.Meaning.{BasePages}
 use Rattle.journal.specs.Runs.{count_of, log_of, on_disk, run_at, IsRun}
 use Rattle.journal.specs.Traces.{Trace, opens, appends, forces, writes, syncs, reports, sets_master, run_of, with_page, newest_store, MayBeOnDisk, KeepsRules, IsUsual, synced, SyncedMayBeMaster}
 use Rattle.journal.proofs.Traces.{on_disk_before, is_there, holds, newest_lies, checkpoint_may_be_master}

@@ -9,14 +9,13 @@ use Rattle.std.proofs.lemmas.Bool.{cases_Bool, or_cases}
 use Rattle.std.proofs.lemmas.List.Elements.{All-head, All-tail}
 use Rattle.page.specs.declared.profile.TheConstants.{PAGES}
 use Rattle.page.specs.declared.profile.TheConstants.{TRANSACTIONS}
-use Rattle.wal.specs.Records.{TableEntry, tx_in, page_in, LogRecord, Update, Compensation, CheckpointBegin, CheckpointEnd, History, start, ◌▸◌, last_lsn, EachRecord}
-use Rattle.wal.specs.Meaning.{BasePages, is_of, has, undo_next_of}
+use Rattle.log_laws.specs.Records.{TableEntry, tx_in, page_in, LogRecord, Update, Compensation, CheckpointBegin, CheckpointEnd, History, start, ◌▸◌, last_lsn, EachRecord}
+use Rattle.log_laws.specs.Meaning.{BasePages, is_of, has, undo_next_of}
 use Rattle.wal.specs.Spelling.{FitsEntry, FitsDirty, FitsTable, Fits}
-use Rattle.wal.proofs.Histories.{record_last, record_more}
-use Rattle.wal.proofs.Holders.{unfinished_has}
-use Rattle.wal.proofs.Rising.{RisesFrom, rises_rising}
-use Rattle.audit.specs.Checkpoints.{IsTrueEntry}
-use Rattle.audit.proofs.Finishing.{last_within}
+use Rattle.log_laws.proofs.Histories.{record_last, record_more, last_within}
+use Rattle.log_laws.proofs.Holders.{unfinished_has}
+use Rattle.log_laws.proofs.Rising.{RisesFrom, rises_rising, rises_more}
+use Rattle.log_laws.specs.Checkpoint.{IsTrueEntry}
 use Rattle.journal.specs.Transactions.{Transaction}
 use Rattle.journal.specs.PageStates.{PageState}
 use Rattle.journal.specs.Transactions.{IsTransaction}
@@ -26,7 +25,7 @@ use Rattle.journal.specs.State.{Agrees}
 use Rattle.journal.proofs.Runs.{run_few}
 use Rattle.journal.proofs.Fitting.{each_fits}
 use Rattle.journal.proofs.TakenTables.{numbers_are}
-use Rattle.journal.proofs.Listed.{Row, at, table, Heads, rises_more, rises, entries_true, CountFrom, count_behind, first_number}
+use Rattle.journal.proofs.Listed.{Row, at, table, Heads, rises, entries_true, CountFrom, count_behind, first_number}
 
 -- NUMBERS IN A LOG whose records can be written
 fits_before : (log : History) (r : LogRecord) → EachRecord Fits (log ▸ r) → EachRecord Fits log

@@ -8,8 +8,8 @@ use Rattle.std.proofs.lemmas.Bool.{cases_Bool}
 use Rattle.std.proofs.lemmas.List.{get_or-map, length-map, length-take}
 use Rattle.std.proofs.lemmas.Map.Keys.{sorted_from_strictly_increasing}
 use Rattle.page.specs.declared.profile.TheConstants.{TRANSACTIONS}
-use Rattle.wal.specs.Records.{TableEntry, LogRecord, CheckpointBegin, CheckpointEnd, last_lsn}
-use Rattle.wal.specs.Meaning.{BasePages}
+use Rattle.log_laws.specs.Records.{TableEntry, LogRecord, CheckpointBegin, CheckpointEnd, last_lsn}
+use Rattle.log_laws.specs.Meaning.{BasePages}
 use Rattle.wal.specs.Spelling.{Fits}
 use Rattle.journal.specs.declared.entries.Head.{Head}
 use Rattle.journal.specs.declared.entries.TransactionEntry.{TransactionEntry}

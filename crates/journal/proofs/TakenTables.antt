@@ -6,13 +6,13 @@ use Rattle.std.specs.List.Sorted.{IsStrictlySortedBy}
 use Rattle.std.specs.Map.{keys_of}
 use Rattle.std.proofs.lemmas.Bool.{lt-ltb}
 use Rattle.page.specs.declared.page.Page.{Page}
-use Rattle.wal.specs.Records.{TableEntry, CheckpointBegin, CheckpointEnd, last_lsn, record_at, first}
-use Rattle.wal.specs.Meaning.{BasePages}
-use Rattle.wal.specs.Redo.{rec_lsn_of}
-use Rattle.wal.specs.Laws.{Obeys}
+use Rattle.log_laws.specs.Records.{TableEntry, CheckpointBegin, CheckpointEnd, last_lsn, record_at, first}
+use Rattle.log_laws.specs.Meaning.{BasePages}
+use Rattle.log_laws.specs.Redo.{rec_lsn_of}
+use Rattle.log_laws.specs.Laws.{Obeys}
 use Rattle.wal.specs.Spelling.{Fits}
-use Rattle.wal.specs.Checkpoint.{DirtyLaw, true_table}
-use Rattle.wal.proofs.Histories.{record_last, first_all}
+use Rattle.log_laws.specs.Checkpoint.{DirtyLaw, true_table}
+use Rattle.log_laws.proofs.Histories.{record_last, first_all}
 use Rattle.journal.specs.PageStates.{PageState}
 use Rattle.journal.specs.Runs.{Run, appended, count_of, log_of, on_disk, run_at, AreTrueTables, MayFollow}
 use Rattle.journal.specs.Transactions.{AreTransactions}

@@ -2,7 +2,7 @@
 use Rattle.std.proofs.Common.{◌≡◌, ◌+◌, ◌*◌, ℕ, List, ◌∷◌, ◌++◌, length, refl, arith, length-append}
 use Rattle.std.specs.Prelude.{flat_map}
 use Rattle.std.specs.Int.{w32, w64, to_be_bytes}
-use Rattle.wal.specs.Records.{TableEntry, CheckpointEnd}
+use Rattle.log_laws.specs.Records.{TableEntry, CheckpointEnd}
 use Rattle.wal.specs.Spelling.{entry, dirty_page, body}
 use Rattle.wal.proofs.Whole.{entry_length}
 use Rattle.journal.proofs.Flat.{flat_length}

@@ -7,17 +7,17 @@ use Rattle.std.proofs.lemmas.Grind.{get_or-set_at}
 use Rattle.std.proofs.lemmas.List.Elements.{All-set}
 use Rattle.page.specs.declared.page.Page.{Page}
 use Rattle.page.specs.Store.{StoreContent, AreNumbered}
-use Rattle.wal.specs.Records.{TableEntry, LogRecord, CheckpointBegin, CheckpointEnd, History, start, ◌▸◌, LogContent, history, last_lsn, base_lsn, record_at, first}
-use Rattle.wal.specs.Meaning.{BasePages, BaseLaw, is_on, has, is_commit_of, last_on}
-use Rattle.wal.specs.Checkpoint.{first_end, checkpoint_at}
-use Rattle.wal.specs.Theorems.{replayed_page}
-use Rattle.wal.proofs.Histories.{first_older, first_all, first_first, record_in_first, size_of_first, size_of_first_le, base_within, up_to_is}
-use Rattle.wal.proofs.Checkpoints.{checkpoint_begins, checkpoint_ends, checkpoint_there, checkpoint_within, first_end_after}
+use Rattle.log_laws.specs.Records.{TableEntry, LogRecord, CheckpointBegin, CheckpointEnd, History, start, ◌▸◌, LogContent, history, last_lsn, base_lsn, record_at, first}
+use Rattle.log_laws.specs.Meaning.{BasePages, BaseLaw, is_on, has, is_commit_of, last_on}
+use Rattle.log_laws.specs.Checkpoint.{first_end, checkpoint_at}
+use Rattle.log_laws.specs.Theorems.{replayed_page}
+use Rattle.log_laws.proofs.Histories.{first_older, first_all, first_first, record_in_first, size_of_first, size_of_first_le, base_within, up_to_is}
+use Rattle.log_laws.proofs.Checkpoints.{checkpoint_begins, checkpoint_ends, checkpoint_there, checkpoint_within, first_end_after}
 use Rattle.journal.specs.Runs.{Run, opened, appended, reported, log_before, store_before, count_of, content_of, log_of, on_disk, run_at, MayOpen, IsRun}
 use Rattle.journal.specs.Crash.{WasCurrent, Crashed}
 use Rattle.journal.specs.Traces.{Trace, opens, appends, forces, writes, syncs, reports, sets_master, run_of, forced, with_page, with_master, newest_store, MayBeOnDisk, MayBeMaster, KeepsRules, left_log, EngineSurvives, EarlierMayBeWritten, CurrentMayBeWritten, CheckpointMayBeMaster}
 use Rattle.journal.proofs.Beginnings.{found_in_first}
-use Rattle.wal.proofs.Pages.{last_on_within}
+use Rattle.log_laws.proofs.Pages.{last_on_within}
 use Rattle.journal.proofs.Runs.{run_based, log_is, base_before, first_end_before}
 use Rattle.journal.proofs.Crash.{crash_recovers}
 

@@ -5,14 +5,14 @@ use Rattle.std.proofs.lemmas.Bool.{and_right}
 use lib.ListN.{length-reverse}
 use Rattle.std.proofs.lemmas.List.{map_push, reverse-append, length-map}
 use Rattle.std.proofs.lemmas.List.Elements.{All-push, All-pop, All-weaker}
-use Rattle.wal.specs.declared.record.State.TheVariants.{Active, Prepared, Aborting}
+use Rattle.log_laws.specs.declared.state.State.TheVariants.{Active, Prepared, Aborting}
 use Rattle.wal.specs.declared.record.Entry.{Entry}
-use Rattle.wal.specs.Records.{UpdateRecord, CompensationRecord, PlainRecord, LogRecord, Update, Compensation, Commit, Abort, End, Prepare, CheckpointBegin, CheckpointEnd, History, start, ◌▸◌, last_lsn, record_at}
-use Rattle.wal.specs.Meaning.{BasePages, undo_next_of, is_of, aborted, prepared, in_doubt, is_unfinished, state_at, state_by, pending}
-use Rattle.wal.specs.Laws.{Compensates, IsLawful}
-use Rattle.wal.specs.Hops.{Walk, hops}
-use Rattle.wal.proofs.Walks.{hops_other, walk_meets_pending}
-use Rattle.wal.proofs.Histories.{record_last, record_more}
+use Rattle.log_laws.specs.Records.{UpdateRecord, CompensationRecord, PlainRecord, LogRecord, Update, Compensation, Commit, Abort, End, Prepare, CheckpointBegin, CheckpointEnd, History, start, ◌▸◌, last_lsn, record_at}
+use Rattle.log_laws.specs.Meaning.{BasePages, undo_next_of, is_of, aborted, prepared, in_doubt, is_unfinished, state_at, state_by, pending}
+use Rattle.log_laws.specs.Laws.{Compensates, IsLawful}
+use Rattle.log_laws.specs.Hops.{Walk, hops}
+use Rattle.log_laws.proofs.Walks.{hops_other, walk_meets_pending}
+use Rattle.log_laws.proofs.Histories.{record_last, record_more}
 use Rattle.journal.specs.Transactions.{Pending}
 use Rattle.journal.specs.Transactions.{Transaction}
 use Rattle.journal.specs.Transactions.{IsPending, lsn_in, IsTransaction}

@@ -7,11 +7,11 @@ use Rattle.std.specs.Prelude.{All}
 use Rattle.page.specs.Image.{Image}
 use Rattle.page.specs.declared.page.Page.{Page}
 use Rattle.page.specs.Store.{StoreContent, AreNumbered}
-use Rattle.wal.specs.Records.{LogRecord, Update, Compensation, LogContent, History, start, ◌▸◌, history, last_lsn, base_lsn}
-use Rattle.wal.specs.Meaning.{BasePages, owner, change_of, writes, is_on, last_on, last_on_from}
+use Rattle.log_laws.specs.Records.{LogRecord, Update, Compensation, LogContent, History, start, ◌▸◌, history, last_lsn, base_lsn}
+use Rattle.log_laws.specs.Meaning.{BasePages, owner, change_of, writes, is_on, last_on, last_on_from}
 use Rattle.wal.specs.Spelling.{Fits}
-use Rattle.wal.specs.Theorems.{replayed_page}
-use Rattle.wal.proofs.Pages.{last_on_highest}
+use Rattle.log_laws.specs.Theorems.{replayed_page}
+use Rattle.log_laws.proofs.Pages.{last_on_highest}
 use Rattle.journal.specs.PageStates.{PageState}
 use Rattle.journal.specs.Runs.{opened, MayOpen}
 use Rattle.journal.specs.Transactions.{Transaction, AreTransactions}

@@ -1,7 +1,7 @@
 -- Texts at the front of a buffer.
 use Rattle.std.proofs.Common.{◌≡◌, ◌+◌, ℕ, List, ◌∷◌, ◌++◌, length, sym, ap₂, subst, arith, length-append, append_assoc}
 use Rattle.std.specs.Int.{w32, w64, to_be_bytes}
-use Rattle.wal.specs.Records.{PlainRecord, LogRecord, Commit, Abort, End, Prepare}
+use Rattle.log_laws.specs.Records.{PlainRecord, LogRecord, Commit, Abort, End, Prepare}
 use Rattle.wal.specs.Spelling.{plain, frame}
 use Rattle.journal.specs.Writing.{Begins, HasKind}
 

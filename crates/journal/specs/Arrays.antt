@@ -5,8 +5,8 @@ use Rattle.std.specs.Map.{lookup}
 use Rattle.std.specs.Ordering.{is_eq, nat_cmp}
 use Rattle.page.specs.Image.{Image as Content}
 use Rattle.page.specs.declared.page.Page.{Page}
-use Rattle.wal.specs.declared.record.State.{State}
-use Rattle.wal.specs.declared.record.State.TheVariants.{Active, Aborting, Prepared}
+use Rattle.log_laws.specs.declared.state.State.{State}
+use Rattle.log_laws.specs.declared.state.State.TheVariants.{Active, Aborting, Prepared}
 use Rattle.wal.specs.declared.record.Entry.{Entry}
 use Rattle.page.specs.declared.profile.TheConstants.{TRANSACTIONS, VALUE_BYTES}
 use Rattle.wal.specs.declared.sizes.TheConstants.{ABSENT}

@@ -2,10 +2,10 @@
 use Rattle.std.specs.Prelude.{◌≡◌, ◌≤◌, ◌<◌, ◌⊎◌, ℕ, List, length, All, Some}
 use Rattle.page.specs.declared.page.Page.{Page}
 use Rattle.page.specs.Store.{StoreContent, AreNumbered}
-use Rattle.wal.specs.Records.{TableEntry, History, LogContent, history, up_to, last_lsn, base_lsn, first}
-use Rattle.wal.specs.Meaning.{BasePages}
-use Rattle.wal.specs.Checkpoint.{checkpoint_at}
-use Rattle.wal.specs.Theorems.{replayed_page}
+use Rattle.log_laws.specs.Records.{TableEntry, History, LogContent, history, up_to, last_lsn, base_lsn, first}
+use Rattle.log_laws.specs.Meaning.{BasePages}
+use Rattle.log_laws.specs.Checkpoint.{checkpoint_at}
+use Rattle.log_laws.specs.Theorems.{replayed_page}
 use Rattle.journal.specs.Runs.{Run, log_before, store_before, count_of, content_of, log_of, on_disk, run_at}
 
 -- CURRENT. A page that is, or was, as the log up to some LSN makes it.

@@ -1,7 +1,7 @@
 -- The file of a log, and what is there after a crash (own).
 use Rattle.std.specs.Prelude.{◌≡◌, ◌≤◌, ℕ, List, ◌++◌, length}
-use Rattle.wal.specs.Records.{history, up_to, last_lsn}
-use Rattle.wal.specs.Meaning.{BasePages}
+use Rattle.log_laws.specs.Records.{history, up_to, last_lsn}
+use Rattle.log_laws.specs.Meaning.{BasePages}
 use Rattle.wal.specs.Reads.{Reads, log_text}
 use Rattle.journal.specs.Runs.{Run, log_before, content_of, log_of, IsRun}
 

@@ -1,6 +1,6 @@
 -- Which transaction holds a cell (own).
 use Rattle.std.specs.Prelude.{◌≡◌, ℕ, Option, Some, None, true}
-use Rattle.wal.specs.Meaning.{is_unfinished, finished, touches}
+use Rattle.log_laws.specs.Meaning.{is_unfinished, finished, touches}
 use Rattle.journal.specs.Runs.{Run, log_of}
 
 -- HOLDER. An unfinished transaction holds a cell if it has an update or a CLR there; if none holds it, all that have one have finished.

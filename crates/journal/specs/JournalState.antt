@@ -1,7 +1,7 @@
 -- What a journal keeps, against its run (own).
 use Rattle.std.specs.Prelude.{⊤, ◌≡◌, ◌<◌, ◌≤◌, ◌-◌, ◌+◌, ◌*◌, ◌^◌, ℕ, List, [], ◌∷◌, ◌++◌, map, drop}
-use Rattle.wal.specs.Records.{LogRecord, End, LogContent, TableEntry, CheckpointBegin, lsn_before, up_to, history, last_lsn}
-use Rattle.wal.specs.Meaning.{BasePages, pending}
+use Rattle.log_laws.specs.Records.{LogRecord, End, LogContent, TableEntry, CheckpointBegin, lsn_before, up_to, history, last_lsn}
+use Rattle.log_laws.specs.Meaning.{BasePages, pending}
 use Rattle.wal.specs.Reads.{spellings, log_text}
 use Rattle.journal.specs.declared.entries.Head.{Head}
 use Rattle.journal.specs.declared.entries.TransactionEntry.{TransactionEntry}

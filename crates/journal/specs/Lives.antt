@@ -1,11 +1,11 @@
 -- An engine that stops, is recovered and works again, any number of times (own).
 use Rattle.std.specs.Prelude.{◌≡◌, ◌≤◌, ◌<◌, ◌^◌, ◌⊎◌, ℕ, Bool, true, ◌||◌}
 use Rattle.page.specs.Store.{StoreContent}
-use Rattle.wal.specs.Records.{history, up_to, last_lsn, first}
-use Rattle.wal.specs.Meaning.{BasePages, committed, prepared, aborted, is_winner}
-use Rattle.wal.specs.Tail.{with_tail}
-use Rattle.wal.specs.Store.{store_out}
-use Rattle.wal.specs.Theorems.{Interrupted, GoesOn}
+use Rattle.log_laws.specs.Records.{history, up_to, last_lsn, first}
+use Rattle.log_laws.specs.Meaning.{BasePages, committed, prepared, aborted, is_winner}
+use Rattle.log_laws.specs.Tail.{with_tail}
+use Rattle.log_laws.specs.Store.{store_out}
+use Rattle.log_laws.specs.Theorems.{Interrupted, GoesOn}
 use Rattle.journal.specs.Runs.{log_before, store_before, log_of, MayOpen, IsRun}
 use Rattle.journal.specs.Traces.{Trace, run_of, forced, MayBeOnDisk, KeepsRules, left_log, Survives}
 

@@ -4,11 +4,11 @@ use Rattle.std.specs.List.{sum_by}
 use Rattle.page.specs.declared.page.Page.{Page}
 use Rattle.page.specs.declared.profile.TheConstants.{TRANSACTIONS}
 use Rattle.page.specs.Store.{StoreContent}
-use Rattle.wal.specs.declared.header.LogStart.{LogStart}
+use Rattle.log_laws.specs.declared.start.LogStart.{LogStart}
 use Rattle.wal.specs.Headers.{FitsStart}
-use Rattle.wal.specs.Records.{History, LogContent, history, first, last_lsn, lsn_before}
-use Rattle.wal.specs.Meaning.{is_of, has, pending}
-use Rattle.wal.specs.Tail.{unfinished_of}
+use Rattle.log_laws.specs.Records.{History, LogContent, history, first, last_lsn, lsn_before}
+use Rattle.log_laws.specs.Meaning.{is_of, has, pending}
+use Rattle.log_laws.specs.Tail.{unfinished_of}
 use Rattle.journal.specs.declared.refusal.Refusal.{Refusal}
 use Rattle.journal.specs.declared.refusal.Refusal.TheVariants.{BadArrays, HasMaster, PageAhead, PageBehind, TooManyTransactions, NoPendingRoom, NoNumber, LogFull, NoResource}
 use Rattle.journal.specs.PageStates.{IsUpToDate}

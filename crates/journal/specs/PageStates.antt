@@ -3,11 +3,10 @@ use Rattle.std.specs.Prelude.{◌≡◌, ◌<◌, ◌≤◌, ◌+◌, suc, ◌==
 use Rattle.page.specs.declared.page.Page.{Page}
 use Rattle.page.specs.Image.{Image}
 use Rattle.page.specs.declared.profile.TheConstants.{SLOTS}
-use Rattle.wal.specs.Records.{History, start, ◌▸◌, last_lsn, base_lsn}
-use Rattle.wal.specs.Meaning.{BasePages, Change, is_on}
-use Rattle.wal.specs.Checkpoint.{DirtyLaw}
-use Rattle.wal.specs.Theorems.{replayed_page}
-use Rattle.audit.specs.Cells.{last_writer}
+use Rattle.log_laws.specs.Records.{History, start, ◌▸◌, last_lsn, base_lsn}
+use Rattle.log_laws.specs.Meaning.{BasePages, Change, is_on, last_writer}
+use Rattle.log_laws.specs.Checkpoint.{DirtyLaw}
+use Rattle.log_laws.specs.Theorems.{replayed_page}
 use Rattle.journal.specs.declared.refusal.Refusal.{Refusal}
 use Rattle.journal.specs.declared.refusal.Refusal.TheVariants.{PageBehind}
 use Rattle.journal.specs.Runs.{Run, count_of, log_of, on_disk}

@@ -2,12 +2,12 @@
 use Rattle.std.specs.Prelude.{⊤, ◌≡◌, ◌≢◌, ◌<◌, ◌≤◌, ◌+◌, ◌*◌, ◌^◌, ◌⊎◌, ℕ, List, [], length, is_some, slice_index_or, take, Bool, true, false, Option, Some, None}
 use Rattle.page.specs.declared.profile.TheConstants.{TRANSACTIONS, SLOTS, VALUE_BYTES}
 use Rattle.wal.specs.declared.sizes.TheConstants.{PLAIN_FRAME, ABSENT}
-use Rattle.wal.specs.declared.record.State.{State}
-use Rattle.wal.specs.declared.record.State.TheVariants.{Active, Aborting, Prepared}
-use Rattle.wal.specs.Records.{LogRecord, last_lsn}
+use Rattle.log_laws.specs.declared.state.State.{State}
+use Rattle.log_laws.specs.declared.state.State.TheVariants.{Active, Aborting, Prepared}
+use Rattle.log_laws.specs.Records.{LogRecord, last_lsn}
 use Rattle.wal.specs.Spelling.{frame}
 use Rattle.journal.specs.State.{IsUndo}
-use Rattle.wal.specs.Meaning.{BasePages, is_of, has, is_unfinished, state_at, pending, touches, last_on}
+use Rattle.log_laws.specs.Meaning.{BasePages, is_of, has, is_unfinished, state_at, pending, touches, last_on}
 use Rattle.journal.specs.declared.refusal.Refusal.{Refusal}
 use Rattle.journal.specs.declared.refusal.Refusal.TheVariants.{UnknownTransaction, Forbidden, NoSuchPage, NoSuchSlot, Held, NothingToUndo, StillPending, TooManyTransactions, NoNumber, NoSuchLsn, LogNotWritten, BadImage, NoFrameRoom, NoPendingRoom, LogFull, NoResource, HasRecords}
 use Rattle.journal.specs.declared.table.Need.{Need}

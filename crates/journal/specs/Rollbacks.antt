@@ -1,9 +1,9 @@
 -- ROLLBACK. A transaction that is unfinished and not prepared can be rolled back (own).
 use Rattle.std.specs.Prelude.{◌≡◌, ◌≢◌, ◌<◌, ◌+◌, ◌^◌, ℕ, true, false, List, [], ◌∷◌, length}
-use Rattle.wal.specs.declared.record.State.TheVariants.{Prepared}
-use Rattle.wal.specs.Records.{LogRecord, Compensation, End, History, ◌▸◌, last_lsn}
-use Rattle.wal.specs.Meaning.{BasePages, finished, is_unfinished, state_at, pending}
-use Rattle.wal.specs.Laws.{Compensates}
+use Rattle.log_laws.specs.declared.state.State.TheVariants.{Prepared}
+use Rattle.log_laws.specs.Records.{LogRecord, Compensation, End, History, ◌▸◌, last_lsn}
+use Rattle.log_laws.specs.Meaning.{BasePages, finished, is_unfinished, state_at, pending}
+use Rattle.log_laws.specs.Laws.{Compensates}
 use Rattle.journal.specs.declared.entries.Head.{Head}
 use Rattle.journal.specs.declared.entries.TransactionEntry.{TransactionEntry}
 use Rattle.journal.specs.declared.entries.PendingEntry.{PendingEntry}

@@ -3,16 +3,16 @@ use Rattle.std.specs.Prelude.{◌≡◌, ◌<◌, ◌^◌, ◌==◌, ℕ, suc, L
 use Rattle.std.specs.List.{AllByRecursion}
 use Rattle.page.specs.declared.page.Page.{Page}
 use Rattle.page.specs.Store.{StoreContent, AreNumbered}
-use Rattle.wal.specs.declared.header.LogStart.{LogStart}
-use Rattle.wal.specs.Records.{TableEntry, LogRecord, CheckpointBegin, CheckpointEnd, History, ◌▸◌, LogContent, history, ◌⧺◌, last_lsn, record_at, first}
-use Rattle.wal.specs.Meaning.{BasePages, last_on}
-use Rattle.wal.specs.Laws.{Obeys}
+use Rattle.log_laws.specs.declared.start.LogStart.{LogStart}
+use Rattle.log_laws.specs.Records.{TableEntry, LogRecord, CheckpointBegin, CheckpointEnd, History, ◌▸◌, LogContent, history, ◌⧺◌, last_lsn, record_at, first}
+use Rattle.log_laws.specs.Meaning.{BasePages, last_on}
+use Rattle.log_laws.specs.Laws.{Obeys}
 use Rattle.wal.specs.Spelling.{Fits}
 use Rattle.wal.specs.Headers.{FitsStart}
-use Rattle.wal.specs.Redo.{rec_lsn_of}
-use Rattle.wal.specs.Checkpoint.{DirtyLaw, true_table}
-use Rattle.wal.specs.Store.{NamesPages, Lawful}
-use Rattle.wal.specs.Theorems.{replayed_page}
+use Rattle.log_laws.specs.Redo.{rec_lsn_of}
+use Rattle.log_laws.specs.Checkpoint.{DirtyLaw, true_table}
+use Rattle.log_laws.specs.Store.{NamesPages, Lawful}
+use Rattle.log_laws.specs.Theorems.{replayed_page}
 
 -- RUN. In the order of time: a journal is opened over a log and a store; a record is appended; the engine reports that the image of a page
 -- with this PageLSN is on the disk.

@@ -2,8 +2,8 @@
 use Rattle.std.specs.Prelude.{◌≡◌, ◌≢◌, ◌≤◌, ◌<◌, ◌⊎◌, ℕ, true, ⊤, List, length, take, drop, All, slice_index_or}
 use Rattle.std.specs.List.{insert, remove}
 use Rattle.page.specs.declared.profile.TheConstants.{TRANSACTIONS}
-use Rattle.wal.specs.Records.{UpdateRecord, History}
-use Rattle.wal.specs.Meaning.{is_of, has}
+use Rattle.log_laws.specs.Records.{UpdateRecord, History}
+use Rattle.log_laws.specs.Meaning.{is_of, has}
 use Rattle.journal.specs.declared.entries.TransactionEntry.{TransactionEntry}
 use Rattle.journal.specs.declared.entries.PendingEntry.{PendingEntry}
 use Rattle.journal.specs.declared.refusal.Refusal.{Refusal}

@@ -1,9 +1,8 @@
 -- What a journal keeps, and what its run says (own).
 use Rattle.std.specs.Prelude.{◌≡◌, ℕ, List, take, map, Option}
-use Rattle.wal.specs.Records.{LogRecord, Update, Compensation, last_lsn}
-use Rattle.wal.specs.Records.{CompensationRecord, PlainRecord}
-use Rattle.wal.specs.Meaning.{BasePages, replay, last_of}
-use Rattle.wal.specs.Laws.{Compensates}
+use Rattle.log_laws.specs.Records.{LogRecord, Update, Compensation, last_lsn, CompensationRecord, PlainRecord}
+use Rattle.log_laws.specs.Meaning.{BasePages, replay, last_of}
+use Rattle.log_laws.specs.Laws.{Compensates}
 use Rattle.page.specs.Image.{Image}
 use Rattle.journal.specs.declared.entries.Head.{Head}
 use Rattle.journal.specs.declared.entries.TransactionEntry.{TransactionEntry}

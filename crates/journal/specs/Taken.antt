@@ -1,7 +1,7 @@
 -- A checkpoint that is taken (own).
 use Rattle.std.specs.Prelude.{◌≡◌, ◌<◌, ◌+◌, ◌++◌, ℕ, List, length}
-use Rattle.wal.specs.Records.{TableEntry, CheckpointBegin, CheckpointEnd}
-use Rattle.wal.specs.Meaning.{BasePages}
+use Rattle.log_laws.specs.Records.{TableEntry, CheckpointBegin, CheckpointEnd}
+use Rattle.log_laws.specs.Meaning.{BasePages}
 use Rattle.wal.specs.Spelling.{frame}
 use Rattle.journal.specs.declared.refusal.Refusal.{Refusal}
 use Rattle.journal.specs.declared.refusal.Refusal.TheVariants.{NoFrameRoom, LogFull}

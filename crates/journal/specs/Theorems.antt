@@ -3,14 +3,14 @@ use Rattle.std.specs.Prelude.{◌≡◌, ◌≤◌, ◌<◌, ◌^◌, ℕ, List,
 use Rattle.page.specs.declared.page.Page.{Page}
 use Rattle.page.specs.declared.profile.TheConstants.{SLOTS}
 use Rattle.page.specs.Store.{StoreContent}
-use Rattle.wal.specs.declared.header.LogStart.TheVariants.{Version2}
+use Rattle.log_laws.specs.declared.start.LogStart.TheVariants.{Version2}
 use Rattle.wal.specs.declared.sizes.TheConstants.{LARGEST_BASE}
-use Rattle.wal.specs.Pages.{base_pages}
-use Rattle.wal.specs.Records.{LogRecord, LogContent, history, last_lsn, record_at}
-use Rattle.wal.specs.Meaning.{BasePages, committed, is_of, change_of, winners}
-use Rattle.wal.specs.Tail.{with_tail}
-use Rattle.wal.specs.Store.{Lawful, store_out}
-use Rattle.wal.specs.Theorems.{Settled}
+use Rattle.log_laws.specs.Pages.{base_pages}
+use Rattle.log_laws.specs.Records.{LogRecord, LogContent, history, last_lsn, record_at}
+use Rattle.log_laws.specs.Meaning.{BasePages, committed, is_of, change_of, winners}
+use Rattle.log_laws.specs.Tail.{with_tail}
+use Rattle.log_laws.specs.Store.{Lawful, store_out}
+use Rattle.log_laws.specs.Theorems.{Settled}
 use Rattle.journal.specs.Runs.{Run, log_of, MayOpen, IsRun, empty_log}
 use Rattle.journal.specs.Crash.{Crashed}
 

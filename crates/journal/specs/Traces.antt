@@ -2,9 +2,9 @@
 use Rattle.std.specs.Prelude.{◌≡◌, ◌≤◌, ◌<◌, ◌⊎◌, ⊤, ℕ, List, ◌++◌, length, true, Some, slice_index_or, slice_set, All, max}
 use Rattle.page.specs.declared.page.Page.{Page}
 use Rattle.page.specs.Store.{StoreContent}
-use Rattle.wal.specs.Records.{TableEntry, LogRecord, CheckpointBegin, CheckpointEnd, LogContent, history, up_to, last_lsn, record_at, first}
-use Rattle.wal.specs.Meaning.{BasePages, committed, last_on}
-use Rattle.wal.specs.Checkpoint.{checkpoint_at}
+use Rattle.log_laws.specs.Records.{TableEntry, LogRecord, CheckpointBegin, CheckpointEnd, LogContent, history, up_to, last_lsn, record_at, first}
+use Rattle.log_laws.specs.Meaning.{BasePages, committed, last_on}
+use Rattle.log_laws.specs.Checkpoint.{checkpoint_at}
 use Rattle.wal.specs.Reads.{log_text, Reads}
 use Rattle.journal.specs.Runs.{Run, opened, appended, reported, log_before, store_before, count_of, content_of, log_of, on_disk, run_at, IsRun}
 use Rattle.journal.specs.Crash.{WasCurrent}

@@ -1,11 +1,11 @@
 -- What a journal keeps of the unfinished transactions, and what its log says of them (own).
 use Rattle.std.specs.Prelude.{◌≡◌, ◌≤◌, ◌⊎◌, ◌+◌, ◌-◌, ◌==◌, max, ℕ, List, [], ◌∷◌, ◌++◌, take, length, Option, Some, None, true, false, All, map, reverse, ⊤}
 use Rattle.page.specs.Image.{Image}
-use Rattle.wal.specs.declared.record.State.{State}
-use Rattle.wal.specs.declared.record.State.TheVariants.{Active}
-use Rattle.wal.specs.Records.{LogRecord, Update, History, record_at}
-use Rattle.wal.specs.Tail.{tx_of}
-use Rattle.wal.specs.Meaning.{is_of, has, finished, state_at, pending, last_of, undo_next_of}
+use Rattle.log_laws.specs.declared.state.State.{State}
+use Rattle.log_laws.specs.declared.state.State.TheVariants.{Active}
+use Rattle.log_laws.specs.Records.{LogRecord, Update, History, record_at}
+use Rattle.log_laws.specs.Tail.{tx_of}
+use Rattle.log_laws.specs.Meaning.{is_of, has, finished, state_at, pending, last_of, undo_next_of}
 use Rattle.wal.specs.declared.record.Entry.{Entry}
 
 -- An update that no CLR has undone, with what its CLR will contain.

@@ -1,6 +1,6 @@
 -- What a call leaves in the buffer to which it writes frames (own).
 use Rattle.std.specs.Prelude.{◌≡◌, ℕ, List, ◌++◌, length, drop}
-use Rattle.wal.specs.Records.{PlainRecord, LogRecord, Commit, Abort, End, Prepare}
+use Rattle.log_laws.specs.Records.{PlainRecord, LogRecord, Commit, Abort, End, Prepare}
 use Rattle.wal.specs.Spelling.{frame}
 
 -- the text is at the front of the buffer, and the bytes after it are unchanged

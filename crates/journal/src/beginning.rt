@@ -1,7 +1,7 @@
 //! How transactions begin, and how one without a record leaves.
 
 ghost use Rattle.std.specs.Prelude.{◌≡◌, ◌≤◌, ◌+◌, List, false, is_some, true, IfOk, OnOk, OnErr, IfErr, length, take, ◌≢◌, ℕ, None};
-ghost use Rattle.wal.specs.Meaning.{BasePages, is_of, has};
+ghost use Rattle.log_laws.specs.Meaning.{BasePages, is_of, has};
 ghost use Rattle.journal.specs.declared.entries.PageEntry.{PageEntry};
 ghost use Rattle.journal.specs.declared.entries.PendingEntry.{PendingEntry};
 ghost use Rattle.journal.specs.Refusals.{BeginRefused, CancelRefused};

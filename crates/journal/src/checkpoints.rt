@@ -3,8 +3,8 @@
 ghost use Rattle.std.specs.Prelude.{◌≡◌, ◌≤◌, ◌<◌, ◌+◌, ◌*◌, ◌++◌, ℕ, List, OnOk, OnErr, IfOk, IfErr, length, flat_map};
 ghost use Rattle.page.specs.declared.profile.TheConstants.{PAGES, TRANSACTIONS};
 ghost use Rattle.wal.specs.declared.sizes.TheConstants.{SMALLEST_FRAME, CHECKPOINT_FRAME, ENTRY_BYTES, DIRTY_BYTES};
-ghost use Rattle.wal.specs.Records.{TableEntry, CheckpointBegin};
-ghost use Rattle.wal.specs.Meaning.{BasePages};
+ghost use Rattle.log_laws.specs.Records.{TableEntry, CheckpointBegin};
+ghost use Rattle.log_laws.specs.Meaning.{BasePages};
 ghost use Rattle.wal.specs.Spelling.{entry, dirty_page};
 ghost use Rattle.journal.specs.declared.entries.PendingEntry.{PendingEntry};
 ghost use Rattle.journal.specs.Listed.{listed_entry, listed_dirty, entries_listed, dirty_listed};

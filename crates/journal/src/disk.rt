@@ -1,7 +1,7 @@
 //! What an engine reports about the disk, and which pages it may write.
 
 ghost use Rattle.std.specs.Prelude.{◌≡◌, ◌≤◌, ◌<◌, max, List, OnOk, OnErr, IfOk, IfErr};
-ghost use Rattle.wal.specs.Meaning.{BasePages, last_on};
+ghost use Rattle.log_laws.specs.Meaning.{BasePages, last_on};
 ghost use Rattle.journal.specs.declared.entries.Head.{Head};
 ghost use Rattle.journal.specs.declared.entries.TransactionEntry.{TransactionEntry};
 ghost use Rattle.journal.specs.declared.entries.PageEntry.{PageEntry};

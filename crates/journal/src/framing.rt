@@ -3,7 +3,7 @@
 ghost use Rattle.std.specs.Prelude.{◌≡◌, ◌≤◌, ◌<◌, ◌+◌, ◌++◌, ℕ, List, length};
 ghost use Rattle.page.specs.declared.profile.TheConstants.{SLOTS};
 ghost use Rattle.wal.specs.declared.sizes.TheConstants.{CELL_HEAD, LSN_BYTES, PLAIN_FRAME};
-ghost use Rattle.wal.specs.Records.{LogRecord, Update, Compensation};
+ghost use Rattle.log_laws.specs.Records.{LogRecord, Update, Compensation};
 ghost use Rattle.wal.specs.Spelling.{image, frame, Fits};
 ghost use Rattle.journal.specs.Arrays.{image_of};
 ghost use Rattle.journal.specs.Writing.{Begins, IsWritten, HasKind};

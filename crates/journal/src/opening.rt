@@ -2,8 +2,8 @@
 
 ghost use Rattle.std.specs.Prelude.{◌≡◌, ◌≢◌, ◌≤◌, ◌↔◌, List, All, IsTrue, IfOk, OnOk, IfErr, OnErr, length, map};
 ghost use Rattle.page.specs.declared.profile.TheConstants.{SLOTS};
-ghost use Rattle.wal.specs.Records.{lsn_before};
-ghost use Rattle.wal.specs.Pages.{base_pages};
+ghost use Rattle.log_laws.specs.Records.{lsn_before};
+ghost use Rattle.log_laws.specs.Pages.{base_pages};
 ghost use Rattle.journal.specs.declared.entries.TransactionEntry.{TransactionEntry};
 ghost use Rattle.journal.specs.declared.entries.PendingEntry.{PendingEntry};
 ghost use Rattle.journal.specs.Runs.{opened, empty_log};

@@ -3,8 +3,8 @@
 ghost use Rattle.std.specs.Prelude.{◌≡◌, ◌≢◌, ◌<◌, ◌≤◌, ◌+◌, ◌*◌, ◌^◌, ℕ, true, false, is_some, List, None, IfSome, IfOk, OnOk, OnErr, IfErr, IsOkUnless, length, slice_index_or, map, take};
 ghost use Rattle.page.specs.declared.profile.TheConstants.{SLOTS};
 ghost use Rattle.wal.specs.declared.sizes.TheConstants.{PLAIN_FRAME};
-ghost use Rattle.wal.specs.Records.{LogRecord, Commit, Abort, End, Prepare};
-ghost use Rattle.wal.specs.Meaning.{BasePages, pending as pending_lsns};
+ghost use Rattle.log_laws.specs.Records.{LogRecord, Commit, Abort, End, Prepare};
+ghost use Rattle.log_laws.specs.Meaning.{BasePages, pending as pending_lsns};
 ghost use Rattle.wal.specs.Spelling.{frame};
 ghost use Rattle.journal.specs.declared.refusal.Refusal.TheVariants.{LogFull, NoFrameRoom};
 ghost use Rattle.journal.specs.declared.table.Need.TheVariants.{Working, NotAborting, NotPrepared};

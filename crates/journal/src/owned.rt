@@ -2,9 +2,9 @@
 
 ghost use Rattle.std.specs.Prelude.{◌≡◌, ◌≤◌, ◌<◌, ◌+◌, ◌*◌, ◌⊎◌, ℕ, [], ◌++◌, max, length, take, true, false, OnOk, OnErr, IfOk, IfErr, IfSome, Option, None, IsOkUnless};
 ghost use Rattle.page.specs.declared.profile.TheConstants.{TRANSACTIONS};
-ghost use Rattle.wal.specs.Records.{Commit, Abort, End, Prepare, last_lsn, history};
-ghost use Rattle.wal.specs.Meaning.{BasePages, is_of, has, pending};
-ghost use Rattle.wal.specs.Pages.{base_pages};
+ghost use Rattle.log_laws.specs.Records.{Commit, Abort, End, Prepare, last_lsn, history};
+ghost use Rattle.log_laws.specs.Meaning.{BasePages, is_of, has, pending};
+ghost use Rattle.log_laws.specs.Pages.{base_pages};
 ghost use Rattle.journal.specs.declared.refusal.Refusal.TheVariants.{NoResource, NoSuchLsn};
 ghost use Rattle.journal.specs.declared.framing.TheConstants.{LONGEST_UNDO};
 ghost use Rattle.journal.specs.declared.table.Need.TheVariants.{NotAborting, NotPrepared};

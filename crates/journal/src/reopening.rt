@@ -3,9 +3,9 @@
 
 ghost use Rattle.std.specs.Prelude.{◌≡◌, ◌≢◌, ◌+◌, ◌-◌, ◌≤◌, ◌<◌, ◌⊎◌, ℕ, false, Some, List, All, take, drop, length, map, option_map, IfSome, IfOk, OnOk, IfErr, OnErr, IsOkUnless, slice_index_or};
 ghost use Rattle.std.specs.List.{insert};
-ghost use Rattle.wal.specs.Records.{LogRecord, Update, Compensation, Abort, Prepare, Commit, End, UpdateRecord, CompensationRecord, PlainRecord, History, ◌▸◌, history, last_lsn};
-ghost use Rattle.wal.specs.Meaning.{BasePages, owner, change_of, finished};
-ghost use Rattle.wal.specs.Laws.{Obeys};
+ghost use Rattle.log_laws.specs.Records.{LogRecord, Update, Compensation, Abort, Prepare, Commit, End, UpdateRecord, CompensationRecord, PlainRecord, History, ◌▸◌, history, last_lsn};
+ghost use Rattle.log_laws.specs.Meaning.{BasePages, owner, change_of, finished};
+ghost use Rattle.log_laws.specs.Laws.{Obeys};
 ghost use Rattle.wal.specs.Spelling.{Fits};
 ghost use Rattle.wal.specs.Content.{shown};
 ghost use Rattle.page.specs.declared.profile.TheConstants.{TRANSACTIONS};

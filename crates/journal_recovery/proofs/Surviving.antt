@@ -1,6 +1,6 @@
 -- What an engine left is lawful, and its recovery is that of a survivor.
 use Rattle.std.proofs.Common.{List, ℕ}
-use Rattle.wal.specs.Meaning.{BasePages}
+use Rattle.log_laws.specs.Meaning.{BasePages}
 use Rattle.recovery.specs.Recovery.{AreLawful, Recovered}
 use Rattle.recovery.specs.Text.{ReportContent}
 use Rattle.journal.specs.Traces.{Trace, left_log, HasForced}

@@ -3,14 +3,14 @@ use Rattle.std.specs.Prelude.{◌≡◌, ◌≤◌, ℕ, List, Option, Some}
 use Rattle.std.specs.Io.KnownBytes.{Appends}
 use Rattle.page.specs.File.{SpellsStore}
 use Rattle.page.specs.Store.{StoreContent}
-use Rattle.wal.specs.Meaning.{BasePages}
+use Rattle.log_laws.specs.Meaning.{BasePages}
 use Rattle.device.specs.declared.traits.Sink.{Ghosts as Sink}
 use Rattle.restart.specs.declared.options.Options.{Options}
 use Rattle.restart.specs.Options.{AreInRange}
 use Rattle.recovery.specs.Recovery.{Recovered, AreLawful}
 use Rattle.recovery.specs.Text.{ReportContent}
 use Rattle.journal.specs.Runs.{log_of, IsRun}
-use Rattle.wal.specs.Records.{last_lsn}
+use Rattle.log_laws.specs.Records.{last_lsn}
 use Rattle.wal.specs.Reads.{Reads}
 use Rattle.journal.specs.Traces.{Trace, run_of, forced, MayBeOnDisk, KeepsRules, left_log, IsForcedFile}
 use Rattle.journal.specs.Lives.{Lasts}

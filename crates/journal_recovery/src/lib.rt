@@ -5,7 +5,7 @@
 
 ghost use Rattle.std.specs.Prelude.{◌≡◌, MatchResult};
 ghost use Rattle.page.specs.declared.fault.Fault.TheVariants.{NoResource};
-ghost use Rattle.wal.specs.Meaning.{BasePages};
+ghost use Rattle.log_laws.specs.Meaning.{BasePages};
 ghost use Rattle.recovery.specs.Recovery.{new_log};
 ghost use Rattle.journal.specs.Traces.{Trace};
 ghost use Rattle.recovery.specs.Devices.{UnlessDevice};

@@ -4,9 +4,9 @@ use Rattle.std.proofs.lemmas.Bool.{cases_lt}
 use Rattle.std.proofs.lemmas.List.{get_or_append_left, take_all}
 use Rattle.std.proofs.Math.Seq.{get_or-append_seam}
 use Rattle.device.specs.Reread.{EndsBy, ReadsFrom}
-use Rattle.wal.specs.Records.{lsn_before, LogContent}
+use Rattle.log_laws.specs.Records.{lsn_before, LogContent}
 use Rattle.wal.specs.Reads.{Reads}
-use Rattle.wal.proofs.Histories.{base_of_log, size_of_log}
+use Rattle.log_laws.proofs.Histories.{base_of_log, size_of_log}
 use Rattle.pieces.specs.declared.mark.Mark.{Mark}
 use Rattle.pieces.specs.Pieces.{IsMark}
 use Rattle.pieces.proofs.Beginnings.{same_start}

@@ -2,9 +2,9 @@
 use Rattle.std.proofs.Common.{◌≡◌, ℕ, ◌<◌, ◌≤◌, List, [], ◌++◌, length, None, get_or, sym, ap, ap₂, ◌∙◌, inl, inr, ◌⊎◌, arith, length-append}
 use Rattle.std.proofs.lemmas.Bool.{cases_lt}
 use Rattle.std.proofs.lemmas.List.{append-nil, nil_from_length}
-use Rattle.wal.specs.Records.{LogRecord, lsn_before, LogContent, start, ◌▸▸◌, history, last_lsn, base_lsn, record_at, ◌⧺◌}
+use Rattle.log_laws.specs.Records.{LogRecord, lsn_before, LogContent, start, ◌▸▸◌, history, last_lsn, base_lsn, record_at, ◌⧺◌}
 use Rattle.wal.specs.Reads.{Reads}
-use Rattle.wal.proofs.Histories.{after-append, base_of_log, record_none, size_of_log}
+use Rattle.log_laws.proofs.Histories.{after-append, base_of_log, record_none, size_of_log}
 use Rattle.pieces.specs.declared.mark.Mark.{Mark}
 use Rattle.pieces.specs.Pieces.{IsMark}
 use Rattle.pieces.proofs.Beginnings.{records_begin, same_start}

@@ -12,9 +12,9 @@ use Rattle.page.specs.declared.fault.Fault.TheVariants.{NoResource, PageAheadOfL
 use Rattle.page.specs.declared.page.Page.{Page}
 use Rattle.page.specs.Store.{StoreContent, AreNumbered}
 use Rattle.changes.specs.declared.pages.Pages.{Ghosts as Pages}
-use Rattle.wal.specs.Records.{LogContent, history, last_lsn}
-use Rattle.wal.specs.Meaning.{BasePages}
-use Rattle.wal.specs.Store.{Lawful}
+use Rattle.log_laws.specs.Records.{LogContent, history, last_lsn}
+use Rattle.log_laws.specs.Meaning.{BasePages}
+use Rattle.log_laws.specs.Store.{Lawful}
 use Rattle.tables.specs.Tables.{TablesContent}
 use Rattle.analysis.specs.Tables.{AreTablesOf}
 use Rattle.redo.specs.Redone.{RedoneContent, AreWorkers, RepeatsHistory, redone_page}

@@ -8,11 +8,11 @@ use Rattle.page.specs.declared.fault.Fault.TheVariants.{NoResource, BadWorkers, 
 use Rattle.page.specs.declared.page.Page.{Page}
 use Rattle.page.specs.Store.{AreNumbered}
 use Rattle.page.specs.declared.profile.TheConstants.{SLOTS}
-use Rattle.wal.specs.Records.{LogRecord, TableEntry, LogContent, History, start, ◌▸◌, history, last_lsn, base_lsn, record_at}
-use Rattle.wal.specs.Meaning.{Cells, Change, change_of, effects, is_on, is_on_page, is_in_cell}
-use Rattle.wal.specs.Redo.{rec_lsn_of, is_redone, last_where, held_by, redo_of, applied}
-use Rattle.wal.specs.Checkpoint.{or_else}
-use Rattle.wal.proofs.Histories.{record_last, record_more, record_above, base_within}
+use Rattle.log_laws.specs.Records.{LogRecord, TableEntry, LogContent, History, start, ◌▸◌, history, last_lsn, base_lsn, record_at}
+use Rattle.log_laws.specs.Meaning.{Cells, Change, change_of, effects, is_on, is_on_page, is_in_cell}
+use Rattle.log_laws.specs.Redo.{rec_lsn_of, is_redone, last_where, held_by, redo_of, applied}
+use Rattle.log_laws.specs.Checkpoint.{or_else}
+use Rattle.log_laws.proofs.Histories.{record_last, record_more, record_above, base_within}
 use Rattle.tables.specs.Tables.{TablesContent}
 use Rattle.analysis.specs.Tables.{AreTablesOf, first_behind, redo_lsn_of}
 use Rattle.analysis.proofs.Smallest.{not_below}

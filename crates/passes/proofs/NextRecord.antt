@@ -4,8 +4,8 @@ use Rattle.page.specs.declared.fault.Fault.{Fault}
 use Rattle.page.specs.declared.page.Page.{Page}
 use Rattle.wal.specs.declared.glance.Glance.{Glance}
 use Rattle.wal.specs.Glances.{glance_of, IsGlanceBehind}
-use Rattle.wal.specs.Records.{LogRecord, LogContent, history, base_lsn}
-use Rattle.wal.proofs.Histories.{record_above}
+use Rattle.log_laws.specs.Records.{LogRecord, LogContent, history, base_lsn}
+use Rattle.log_laws.proofs.Histories.{record_above}
 use Rattle.tables.specs.Pieces.{IsPieceOf}
 use Rattle.redo.specs.Inputs.{InputContent, input_over}
 use Rattle.redo.specs.Changes.{NamesBelow}

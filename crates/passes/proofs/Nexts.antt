@@ -1,13 +1,13 @@
 -- What comes after a mark: no record, or one that fits in the room.
 use Rattle.std.proofs.Common.{◌≡◌, ℕ, ◌+◌, ◌-◌, ◌<◌, ◌≤◌, List, [], length, take, drop, refl, sym, ap, ◌∙◌, subst, inl, inr, arith, length-append, length-take, length-drop}
 use Rattle.std.proofs.lemmas.List.{append-nil, nil_from_length}
-use Rattle.wal.specs.Records.{LogRecord, lsn_before, LogContent, history, last_lsn, ◌⧺◌}
+use Rattle.log_laws.specs.Records.{LogRecord, lsn_before, LogContent, history, last_lsn, ◌⧺◌}
 use Rattle.wal.specs.Headers.{header_of}
-use Rattle.wal.specs.declared.header.LogStart.TheVariants.{Version2}
+use Rattle.log_laws.specs.declared.start.LogStart.TheVariants.{Version2}
 use Rattle.wal.specs.Reads.{Reads, IsTorn, log_text}
 use Rattle.wal.specs.declared.sizes.TheConstants.{LONGEST_FRAME, BASED_HEADER_BYTES}
 use Rattle.wal.proofs.Headers.{header_length}
-use Rattle.wal.proofs.Histories.{size_of_log}
+use Rattle.log_laws.proofs.Histories.{size_of_log}
 use Rattle.pieces.specs.declared.mark.Mark.{Mark}
 use Rattle.pieces.specs.Pieces.{IsMark, piece_text, ContinuesLog}
 use Rattle.wal.proofs.Whole.{one_reading}

@@ -7,10 +7,10 @@ use Rattle.std.specs.declared.result.Result.{Result}
 use Rattle.page.specs.declared.fault.Fault.{Fault}
 use Rattle.page.specs.declared.page.Page.{Page}
 use Rattle.page.specs.Store.{AreNumbered}
-use Rattle.wal.specs.Records.{LogContent, History, lsn_before, history, last_lsn, base_lsn}
+use Rattle.log_laws.specs.Records.{LogContent, History, lsn_before, history, last_lsn, base_lsn}
 use Rattle.wal.specs.Reads.{Reads}
 use Rattle.wal.proofs.Whole.{one_reading}
-use Rattle.wal.proofs.Histories.{base_within, base_of_log, size_of_log}
+use Rattle.log_laws.proofs.Histories.{base_within, base_of_log, size_of_log}
 use Rattle.tables.specs.Tables.{TablesContent}
 use Rattle.analysis.specs.Passing.{SeenTables, HasAnalysed}
 use Rattle.analysis.specs.Tables.{AreTablesOf}

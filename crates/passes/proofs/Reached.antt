@@ -3,11 +3,11 @@ use Rattle.std.proofs.Common.{◌≡◌, ℕ, ◌+◌, ◌-◌, ◌<◌, ◌≤�
 use Rattle.std.specs.Prelude.{IfSome}
 use Rattle.std.specs.Io.KnownBytes.{Keeps}
 use Rattle.std.proofs.lemmas.List.{drop-take}
-use Rattle.wal.specs.Records.{lsn_before, LogContent, history, last_lsn, base_lsn, ◌⧺◌}
+use Rattle.log_laws.specs.Records.{lsn_before, LogContent, history, last_lsn, base_lsn, ◌⧺◌}
 use Rattle.wal.specs.Headers.{header_of}
-use Rattle.wal.specs.declared.header.LogStart.TheVariants.{Version2}
+use Rattle.log_laws.specs.declared.start.LogStart.TheVariants.{Version2}
 use Rattle.wal.specs.Reads.{Reads}
-use Rattle.wal.proofs.Histories.{base_of_log, size_of_log}
+use Rattle.log_laws.proofs.Histories.{base_of_log, size_of_log}
 use Rattle.pieces.specs.declared.mark.Mark.{Mark}
 use Rattle.pieces.specs.Pieces.{IsMark, piece_text, ContinuesLog}
 use Rattle.passes.specs.Marks.{Reaches, AreMarks, AreInReach}

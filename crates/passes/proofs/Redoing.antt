@@ -7,9 +7,9 @@ use Rattle.page.specs.declared.fault.Fault.{Fault}
 use Rattle.page.specs.declared.fault.Fault.TheVariants.{NoResource, NoSuchPage}
 use Rattle.page.specs.declared.page.Page.{Page}
 use Rattle.page.specs.Store.{AreNumbered}
-use Rattle.wal.specs.Records.{LogContent, lsn_before, start, history, last_lsn, base_lsn}
+use Rattle.log_laws.specs.Records.{LogContent, lsn_before, start, history, last_lsn, base_lsn}
 use Rattle.wal.specs.Reads.{Reads}
-use Rattle.wal.proofs.Histories.{base_of_log, size_of_log, first_at_base, record_above, record_within}
+use Rattle.log_laws.proofs.Histories.{base_of_log, size_of_log, first_at_base, record_above, record_within}
 use Rattle.tables.specs.Tables.{TablesContent}
 use Rattle.tables.specs.Pieces.{IsPieceOf}
 use Rattle.pieces.specs.declared.mark.Mark.{Mark}

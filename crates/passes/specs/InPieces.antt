@@ -3,8 +3,8 @@ use Rattle.std.specs.Prelude.{◌≡◌, ◌⊎◌, ⊤, ℕ, ◌+◌, List, len
 use Rattle.page.specs.declared.page.Page.{Page}
 use Rattle.page.specs.Store.{StoreContent, AreNumbered}
 use Rattle.changes.specs.declared.pages.Pages.{Ghosts as Pages}
-use Rattle.wal.specs.Meaning.{BasePages}
-use Rattle.wal.specs.Records.{LogContent, history, base_lsn, last_lsn}
+use Rattle.log_laws.specs.Meaning.{BasePages}
+use Rattle.log_laws.specs.Records.{LogContent, history, base_lsn, last_lsn}
 use Rattle.wal.specs.Reads.{Reads, Cause, log_text}
 use Rattle.undo.specs.declared.appended.Appended.{Appended}
 use Rattle.undo.specs.Appended.{appended_records}

@@ -1,7 +1,7 @@
 -- The marks of a log, between which it is read in pieces (own).
 use Rattle.std.specs.Prelude.{◌≡◌, ◌⊎◌, ℕ, ◌+◌, ◌-◌, ◌*◌, ◌^◌, ◌<◌, ◌≤◌, List, All, length, slice_index_or, ⊤}
 use Rattle.page.specs.declared.fault.Fault.TheVariants.{NoResource}
-use Rattle.wal.specs.Records.{LogContent, history, base_lsn, last_lsn}
+use Rattle.log_laws.specs.Records.{LogContent, history, base_lsn, last_lsn}
 use Rattle.wal.specs.Reads.{Reads, Cause}
 use Rattle.wal.specs.declared.sizes.TheConstants.{HEADER_BYTES, BASED_HEADER_BYTES, LARGEST_BASE, SMALLEST_FRAME}
 use Rattle.pieces.specs.declared.mark.Mark.{Mark}

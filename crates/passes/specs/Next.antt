@@ -1,6 +1,6 @@
 -- What comes after a mark of a log (own).
 use Rattle.std.specs.Prelude.{◌≡◌, ℕ, ◌<◌, List}
-use Rattle.wal.specs.Records.{LogContent, history, last_lsn, ◌⧺◌}
+use Rattle.log_laws.specs.Records.{LogContent, history, last_lsn, ◌⧺◌}
 use Rattle.wal.specs.Reads.{Reads}
 use Rattle.tables.specs.Pieces.{IsPieceOf}
 use Rattle.pieces.specs.declared.mark.Mark.{Mark}

@@ -3,7 +3,7 @@ use Rattle.std.specs.Prelude.{◌≡◌, ⊤, ℕ, ◌+◌, ◌≤◌, List, len
 use Rattle.page.specs.declared.page.Page.{Page}
 use Rattle.page.specs.Store.{AreNumbered}
 use Rattle.changes.specs.declared.pages.Pages.{Ghosts as Pages}
-use Rattle.wal.specs.Records.{LogContent}
+use Rattle.log_laws.specs.Records.{LogContent}
 use Rattle.tables.specs.Tables.{TablesContent}
 use Rattle.redo.specs.Inputs.{input_over}
 use Rattle.redo.specs.OnePass.{AreUpTo}

@@ -1,6 +1,6 @@
 -- The errors of analysis of a log in pieces (own).
 use Rattle.std.specs.Prelude.{ℕ, ⊤}
-use Rattle.wal.specs.Records.{LogContent, history}
+use Rattle.log_laws.specs.Records.{LogContent, history}
 use Rattle.analysis.specs.Tables.{BaseFault}
 use Rattle.passes.specs.declared.fault.PassFault.{PassFault}
 use Rattle.passes.specs.declared.fault.PassFault.TheVariants as fault

@@ -3,10 +3,10 @@
 ghost use Rattle.std.specs.Prelude.{◌≡◌, ◌+◌, ◌-◌, ◌≤◌, ◌<◌, ◌^◌, ℕ, List, length, IfOk, IfErr, OnOk, Some, None};
 ghost use Rattle.std.specs.Io.KnownBytes.{Keeps};
 ghost use Rattle.page.specs.Store.{StoreContent};
-ghost use Rattle.wal.specs.Records.{LogContent, History, history, last_lsn, record_at};
-ghost use Rattle.wal.specs.Meaning.{BasePages};
-ghost use Rattle.wal.specs.Store.{Lawful};
-ghost use Rattle.wal.specs.Undo.{entry_for};
+ghost use Rattle.log_laws.specs.Records.{LogContent, History, history, last_lsn, record_at};
+ghost use Rattle.log_laws.specs.Meaning.{BasePages};
+ghost use Rattle.log_laws.specs.Store.{Lawful};
+ghost use Rattle.log_laws.specs.Undo.{entry_for};
 ghost use Rattle.wal.specs.Reads.{Reads};
 ghost use Rattle.wal.specs.declared.sizes.TheConstants.{BASED_HEADER_BYTES, LARGEST_BASE, LONGEST_FRAME};
 ghost use Rattle.tables.specs.Lawful.{AreTrue};

@@ -4,11 +4,11 @@ ghost use Rattle.std.specs.Prelude.{◌≡◌, ◌+◌, ◌*◌, ◌≤◌, ◌<
 ghost use Rattle.std.specs.Io.KnownBytes.{Keeps};
 ghost use Rattle.page.specs.Store.{StoreContent};
 ghost use Rattle.changes.specs.Numbered.{StayNumbered};
-ghost use Rattle.wal.specs.Records.{LogContent, history};
-ghost use Rattle.wal.specs.Meaning.{BasePages};
+ghost use Rattle.log_laws.specs.Records.{LogContent, history};
+ghost use Rattle.log_laws.specs.Meaning.{BasePages};
 ghost use Rattle.wal.specs.Reads.{Reads};
-ghost use Rattle.wal.specs.Store.{Lawful};
-ghost use Rattle.wal.specs.Undo.{entry_for};
+ghost use Rattle.log_laws.specs.Store.{Lawful};
+ghost use Rattle.log_laws.specs.Undo.{entry_for};
 ghost use Rattle.wal.specs.declared.sizes.TheConstants.{BASED_HEADER_BYTES, LONGEST_FRAME};
 ghost use Rattle.tables.specs.Lawful.{AreTrue};
 ghost use Rattle.undo.specs.Appended.{HaveUpdates, AreFit};

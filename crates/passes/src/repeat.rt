@@ -6,7 +6,7 @@ ghost use Rattle.std.specs.List.Sorted.{IsNonDecreasingBy};
 ghost use Rattle.page.specs.declared.page.Page.{Page};
 ghost use Rattle.changes.specs.Numbered.{StayNumbered};
 ghost use Rattle.page.specs.declared.profile.TheConstants.{SLOTS};
-ghost use Rattle.wal.specs.Records.{LogContent, history, base_lsn, last_lsn};
+ghost use Rattle.log_laws.specs.Records.{LogContent, history, base_lsn, last_lsn};
 ghost use Rattle.wal.specs.Reads.{Reads};
 ghost use Rattle.wal.specs.declared.sizes.TheConstants.{BASED_HEADER_BYTES, LARGEST_BASE, LONGEST_FRAME};
 ghost use Rattle.tables.specs.Tables.{TablesContent};

@@ -2,15 +2,15 @@
 use Rattle.std.proofs.Common.{◌≡◌, ℕ, suc, ◌+◌, ◌-◌, ◌<◌, ◌≤◌, List, [], ◌∷◌, ◌++◌, length, take, drop, Result, Ok, Err, Some, cond, eqb, sym, ap, ap₂, ◌∙◌, append_assoc, arith, inr, length-append}
 use Rattle.std.proofs.lemmas.List.{append-nil, nil_from_length, take-append-drop}
 use Rattle.page.specs.declared.fault.Fault.{Fault}
-use Rattle.wal.specs.declared.header.LogStart.{LogStart}
-use Rattle.wal.specs.Records.{LogRecord, lsn_before, LogContent, History, start, ◌▸◌, ◌▸▸◌, history, last_lsn, base_lsn, record_at, ◌⧺◌}
+use Rattle.log_laws.specs.declared.start.LogStart.{LogStart}
+use Rattle.log_laws.specs.Records.{LogRecord, lsn_before, LogContent, History, start, ◌▸◌, ◌▸▸◌, history, last_lsn, base_lsn, record_at, ◌⧺◌}
 use Rattle.wal.specs.Headers.{header_of, header_bytes, start_at}
 use Rattle.wal.specs.Frames.{frames_at, log_at, log_from, frames_behind, as_log, ◌>>=◌}
 use Rattle.wal.specs.Reads.{spellings, log_text, Reads}
 use Rattle.wal.proofs.Headers.{header_dropped, start_again, one_start}
 use Rattle.wal.proofs.Loop.{with_front}
 use Rattle.wal.proofs.Whole.{frames_on, log_again, ok_is}
-use Rattle.wal.proofs.Histories.{after-append, record_in_front, record_none, size-after, size_of_log, base_of_log}
+use Rattle.log_laws.proofs.Histories.{after-append, record_in_front, record_none, size-after, size_of_log, base_of_log}
 use Rattle.pieces.specs.Pieces.{PiecesBelong}
 use Rattle.pieces.proofs.Pieces.{frames_long}
 

@@ -6,10 +6,10 @@ use Rattle.std.specs.Int.{w32, from_be_bytes, to_be_bytes}
 use Rattle.std.proofs.lemmas.List.{append-nil, append_cancel_left, drop-append-le, length-take, nil_from_length, take-append-drop, take-append-le, take_all, take_at}
 use Rattle.page.specs.declared.fault.Fault.{Fault}
 use Rattle.page.specs.declared.fault.Fault.TheVariants.{NoResource, BadLogHeader, BadLength, BadRecord, BadLsn}
-use Rattle.wal.specs.declared.header.LogStart.{LogStart}
-use Rattle.wal.specs.declared.header.LogStart.TheVariants.{Version1, Version2}
+use Rattle.log_laws.specs.declared.start.LogStart.{LogStart}
+use Rattle.log_laws.specs.declared.start.LogStart.TheVariants.{Version1, Version2}
 use Rattle.wal.specs.declared.sizes.TheConstants.{LARGEST_BASE, BASED_HEADER_BYTES}
-use Rattle.wal.specs.Records.{LogRecord, lsn_before, LogContent, history, last_lsn, base_lsn, ◌⧺◌}
+use Rattle.log_laws.specs.Records.{LogRecord, lsn_before, LogContent, history, last_lsn, base_lsn, ◌⧺◌}
 use Rattle.wal.specs.Headers.{header_of, header_bytes}
 use Rattle.wal.specs.Spelling.{body, frame, Fits}
 use Rattle.wal.specs.Frames.{length_of, body_of}
@@ -17,7 +17,7 @@ use Rattle.wal.specs.Reads.{spellings, log_text, Reads, IsWhole, HasFault, HasFa
 use Rattle.std.proofs.Math.Seq.{take-append-add}
 use Rattle.device.specs.Reread.{ReadsFrom}
 use Rattle.wal.proofs.Headers.{at_least, header_length, one_start, header_dropped}
-use Rattle.wal.proofs.Histories.{base_of_log, size_of_log}
+use Rattle.log_laws.proofs.Histories.{base_of_log, size_of_log}
 use Rattle.wal.proofs.Whole.{body_size}
 use Rattle.wal.proofs.CutBytes.{spellings-append}
 use Rattle.pieces.specs.declared.mark.Mark.{Mark}

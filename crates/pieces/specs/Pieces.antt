@@ -2,8 +2,8 @@
 use Rattle.std.specs.Prelude.{◌≡◌, ⊤, ℕ, ◌+◌, ◌-◌, ◌^◌, ◌<◌, ◌≤◌, List, ◌++◌, length, take, drop}
 use Rattle.page.specs.declared.fault.Fault.{Fault}
 use Rattle.page.specs.declared.fault.Fault.TheVariants.{BadLength, BadRecord, BadLsn}
-use Rattle.wal.specs.declared.header.LogStart.TheVariants.{Version2}
-use Rattle.wal.specs.Records.{LogContent, history, last_lsn, ◌⧺◌}
+use Rattle.log_laws.specs.declared.start.LogStart.TheVariants.{Version2}
+use Rattle.log_laws.specs.Records.{LogContent, history, last_lsn, ◌⧺◌}
 use Rattle.wal.specs.Headers.{header_of}
 use Rattle.wal.specs.Reads.{Reads}
 use Rattle.tables.specs.Pieces.{IsPieceOf}

@@ -2,7 +2,7 @@
 
 ghost use Rattle.std.specs.Prelude.{◌≡◌, ◌+◌, ◌-◌, ◌≤◌, ◌<◌, ◌^◌, ℕ, List, length, IfOk, IfErr};
 ghost use Rattle.page.specs.declared.fault.Fault.{Fault};
-ghost use Rattle.wal.specs.Records.{LogContent};
+ghost use Rattle.log_laws.specs.Records.{LogContent};
 ghost use Rattle.wal.specs.Reads.{Cause};
 ghost use Rattle.wal.specs.declared.sizes.TheConstants.{BASED_HEADER_BYTES, LARGEST_BASE};
 ghost use Rattle.pieces.specs.Pieces.{IsMark, piece_text, ContinuesLog, moved, OffsetFits};

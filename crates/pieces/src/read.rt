@@ -5,10 +5,10 @@ ghost use Rattle.std.specs.Io.KnownBytes.{Keeps};
 ghost use Rattle.device.specs.Failures.{Counts};
 ghost use Rattle.device.specs.Reread.{EndsBy, ReadsFrom};
 ghost use Rattle.page.specs.declared.fault.Fault.{Fault};
-ghost use Rattle.wal.specs.Records.{LogContent};
+ghost use Rattle.log_laws.specs.Records.{LogContent};
 ghost use Rattle.wal.specs.Headers.{header_of};
 ghost use Rattle.wal.specs.Reads.{Cause};
-ghost use Rattle.wal.specs.declared.header.LogStart.TheVariants.{Version2};
+ghost use Rattle.log_laws.specs.declared.start.LogStart.TheVariants.{Version2};
 ghost use Rattle.wal.specs.declared.sizes.TheConstants.{BASED_HEADER_BYTES, LARGEST_BASE};
 ghost use Rattle.pieces.specs.Pieces.{IsMark, piece_text};
 

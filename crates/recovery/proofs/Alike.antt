@@ -1,9 +1,9 @@
 -- Some records of a log that undo looked at, and the whole log: what is appended and what is reported are the same by both.
 use Rattle.std.proofs.Common.{◌≡◌, ◌+◌, ℕ, List, All, length, refl, ap, subst, ◌∙◌, arith}
-use Rattle.wal.specs.Records.{LogContent, history, last_lsn}
+use Rattle.log_laws.specs.Records.{LogContent, history, last_lsn}
 use Rattle.wal.specs.Reads.{spellings}
 use Rattle.wal.specs.Spelling.{Fits}
-use Rattle.wal.proofs.Histories.{size_of_log, base_of_log}
+use Rattle.log_laws.proofs.Histories.{size_of_log, base_of_log}
 use Rattle.undo.specs.declared.appended.Appended.{Appended}
 use Rattle.undo.specs.Appended.{appended_records, AreFit}
 use Rattle.undo.proofs.Told.{told_fit}

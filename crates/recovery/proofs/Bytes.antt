@@ -6,13 +6,13 @@ use Rattle.page.specs.Store.{StoreContent}
 use Rattle.page.specs.declared.fault.Fault.{Fault}
 use Rattle.page.specs.declared.fault.Fault.TheVariants.{NoResource, BadWorkers, BadParting}
 use Rattle.page.specs.File.{StoreFault}
-use Rattle.wal.proofs.Histories.{size_of_log}
-use Rattle.wal.specs.Records.{LogRecord, LogContent, last_lsn, history, ◌⧺◌, lsn_before}
+use Rattle.log_laws.proofs.Histories.{size_of_log}
+use Rattle.log_laws.specs.Records.{LogRecord, LogContent, last_lsn, history, ◌⧺◌, lsn_before}
 use Rattle.wal.specs.Frames.{Gives}
 use Rattle.wal.specs.Reads.{Reads, spellings, log_text}
 use Rattle.wal.specs.Spelling.{frame}
-use Rattle.wal.specs.Meaning.{BasePages}
-use Rattle.wal.specs.Store.{Lawful}
+use Rattle.log_laws.specs.Meaning.{BasePages}
+use Rattle.log_laws.specs.Store.{Lawful}
 use Rattle.wal.proofs.CutBytes.{spellings-append}
 use Rattle.redo.specs.Parting.{PartingContent, by_number}
 use Rattle.restart.specs.declared.options.Options.{Options}

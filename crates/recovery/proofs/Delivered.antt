@@ -7,8 +7,8 @@ use Rattle.page.specs.declared.fault.Fault.{Fault}
 use Rattle.page.specs.declared.fault.Fault.TheVariants.{NoResource, ReadLog, ReadStore, WriteLog, WriteStore, BadWorkers, BadParting}
 use Rattle.page.specs.File.{SpellsStore, store_text}
 use Rattle.wal.specs.Reads.{Reads, log_text}
-use Rattle.wal.specs.Meaning.{BasePages}
-use Rattle.wal.specs.Theorems.{GoesOn}
+use Rattle.log_laws.specs.Meaning.{BasePages}
+use Rattle.log_laws.specs.Theorems.{GoesOn}
 use Rattle.wal.proofs.CutBytes.{cuts_settle}
 use Rattle.device.specs.declared.traits.Sink.{Ghosts as Sink}
 use Rattle.device.specs.Transfer.{TookBeginning}

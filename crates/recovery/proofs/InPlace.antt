@@ -8,9 +8,9 @@ use Rattle.std.proofs.lemmas.Option.{same_Some}
 use Rattle.page.specs.declared.fault.Fault.{Fault}
 use Rattle.page.specs.declared.fault.Fault.TheVariants.{WriteLog, WriteStore}
 use Rattle.page.specs.File.{store_text}
-use Rattle.wal.specs.Meaning.{BasePages}
+use Rattle.log_laws.specs.Meaning.{BasePages}
 use Rattle.wal.specs.Reads.{Reads, log_text}
-use Rattle.wal.specs.Tail.{with_tail}
+use Rattle.log_laws.specs.Tail.{with_tail}
 use Rattle.wal.proofs.Whole.{one_reading}
 use Rattle.device.specs.declared.traits.Sink.{Ghosts as Sink}
 use Rattle.device.specs.Continued.{Cuts, Shortens}

@@ -14,9 +14,9 @@ use Rattle.changes.specs.Changes.{PageChange, unchanged, changed}
 use Rattle.changes.specs.Pages.{ShowsChanges}
 use Rattle.page.specs.Lsns.{lsns_of}
 use Rattle.changes.proofs.Puts.{puts_are_sets}
-use Rattle.wal.specs.Meaning.{BasePages}
+use Rattle.log_laws.specs.Meaning.{BasePages}
 use Rattle.wal.specs.Reads.{Reads}
-use Rattle.wal.specs.Tail.{with_tail}
+use Rattle.log_laws.specs.Tail.{with_tail}
 use Rattle.recovery.specs.Text.{ReportContent}
 use Rattle.recovery.specs.Recovery.{Recovers, AreLawful}
 use Rattle.std.proofs.KnownBytes.{Keeps-refl}

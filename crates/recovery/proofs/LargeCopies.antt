@@ -2,9 +2,9 @@
 use Rattle.std.proofs.Common.{ℕ, List, Option, inr}
 use Rattle.page.specs.declared.fault.Fault.{Fault}
 use Rattle.page.specs.declared.fault.Fault.TheVariants.{ReadStore, WriteStore}
-use Rattle.wal.specs.Meaning.{BasePages}
+use Rattle.log_laws.specs.Meaning.{BasePages}
 use Rattle.wal.specs.Reads.{Reads}
-use Rattle.wal.specs.Tail.{with_tail}
+use Rattle.log_laws.specs.Tail.{with_tail}
 use Rattle.device.specs.declared.traits.Sink.{Ghosts as Sink}
 use Rattle.restart.specs.declared.options.Options.{Options}
 use Rattle.recovery.specs.Recovery.{AreLawful}

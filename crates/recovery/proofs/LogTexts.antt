@@ -9,7 +9,7 @@ use Rattle.std.proofs.KnownBytes.{Consumes-trans}
 use Rattle.device.specs.Transfer.{ReadBehind}
 use Rattle.page.specs.declared.fault.Fault.{Fault}
 use Rattle.wal.specs.Frames.{Fails}
-use Rattle.wal.specs.Records.{LogContent}
+use Rattle.log_laws.specs.Records.{LogContent}
 use Rattle.wal.specs.Reads.{Cause}
 use Rattle.wal.proofs.Causes.{no_fault_of_a_log}
 use Rattle.recovery.specs.LogText.{CameAfter}

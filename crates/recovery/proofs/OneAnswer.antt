@@ -4,7 +4,7 @@ use Rattle.page.specs.Store.{StoreContent}
 use Rattle.page.specs.File.{store_text}
 use Rattle.page.specs.Laws.{OneStoreSpelling}
 use Rattle.wal.specs.Reads.{OneReading, log_text}
-use Rattle.wal.specs.Records.{LogRecord, LogContent, ◌⧺◌}
+use Rattle.log_laws.specs.Records.{LogRecord, LogContent, ◌⧺◌}
 use Rattle.restart.specs.Restart.{Restarts}
 use Rattle.recovery.specs.Recovery.{report_of}
 use Rattle.restart.specs.OneAnswer.{OneOutcome}

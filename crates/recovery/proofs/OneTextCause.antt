@@ -6,7 +6,7 @@ use Rattle.page.specs.Causes.{HasOneCause, HasNoCause}
 use Rattle.page.specs.Laws.{OneStoreSpelling, OneStoreFault, NoFaultOfAStore}
 use Rattle.page.specs.File.{StoreFault, SpellsStore}
 use Rattle.page.specs.Store.{StoreContent}
-use Rattle.wal.specs.Records.{LogContent}
+use Rattle.log_laws.specs.Records.{LogContent}
 use Rattle.wal.specs.Reads.{OneReading, OneLogFault, NoFaultOfALog, Reads, Cause as LogFault}
 use Rattle.restart.specs.Outcome.{OutcomeContent}
 use Rattle.restart.specs.declared.options.Options.{Options}
@@ -14,7 +14,7 @@ use Rattle.restart.specs.Restart.{Restarts, InputFault}
 use Rattle.restart.specs.Options.{AreInRange, OptionsFault}
 use Rattle.restart.proofs.OptionFaults.{options_hold, one_options_fault}
 use Rattle.recovery.specs.Recovery.{Decoded, RecoveryCause}
-use Rattle.wal.specs.Meaning.{no_base}
+use Rattle.log_laws.specs.Meaning.{no_base}
 use Rattle.audit.specs.Base.{FirstFaultOver, OneFirstFaultOver, NoFaultOfTheLawfulOver}
 use Rattle.recovery.specs.Audit.{TextFault, OverFault}
 use Rattle.audit.specs.FirstFault.{FirstFault, OneFirstFault, NoFaultOfTheLawful}

@@ -3,10 +3,10 @@ use Rattle.std.proofs.Common.{◌≡◌, ℕ, ◌-◌, ◌*◌, ◌^◌, ◌<◌
 use Rattle.std.proofs.lemmas.List.{length-map}
 use Rattle.page.specs.Store.{StoreContent}
 use Rattle.page.specs.File.{SpellsStore, store_text}
-use Rattle.wal.specs.Records.{LogRecord, LogContent, ◌⧺◌, last_lsn, history, lsn_before}
-use Rattle.wal.specs.Meaning.{BasePages, in_doubt}
+use Rattle.log_laws.specs.Records.{LogRecord, LogContent, ◌⧺◌, last_lsn, history, lsn_before}
+use Rattle.log_laws.specs.Meaning.{BasePages, in_doubt}
 use Rattle.wal.specs.Headers.{header_of}
-use Rattle.wal.specs.Tail.{with_tail, tail_of}
+use Rattle.log_laws.specs.Tail.{with_tail, tail_of}
 use Rattle.wal.specs.Reads.{Reads, spellings, log_text}
 use Rattle.undo.specs.declared.appended.Appended.{Appended}
 use Rattle.undo.specs.Appended.{AreFit, appended_records, record_of}

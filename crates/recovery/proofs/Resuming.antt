@@ -10,18 +10,18 @@ use Rattle.page.specs.declared.fault.Fault.{Fault}
 use Rattle.page.specs.declared.fault.Fault.TheVariants.{WriteLog, WriteStore}
 use Rattle.page.specs.declared.page.Page.{Page}
 use Rattle.page.specs.Store.{StoreContent}
-use Rattle.wal.specs.Records.{LogRecord, History, start, ◌▸▸◌, history, last_lsn, LogContent, ◌⧺◌, lsn_before}
-use Rattle.wal.specs.Meaning.{BasePages, replay}
-use Rattle.wal.specs.Redo.{slots_in}
-use Rattle.wal.specs.Tail.{tail_of, with_tail}
+use Rattle.log_laws.specs.Records.{LogRecord, History, start, ◌▸▸◌, history, last_lsn, LogContent, ◌⧺◌, lsn_before}
+use Rattle.log_laws.specs.Meaning.{BasePages, replay}
+use Rattle.log_laws.specs.Redo.{slots_in}
+use Rattle.log_laws.specs.Tail.{tail_of, with_tail}
 use Rattle.wal.specs.Frames.{length_of}
 use Rattle.wal.specs.Reads.{Reads, IsTorn, spellings, log_text}
 use Rattle.wal.specs.Spelling.{Fits, body, frame}
-use Rattle.wal.specs.Pages.{PageLaw}
-use Rattle.wal.specs.Store.{Lawful}
+use Rattle.log_laws.specs.Pages.{PageLaw}
+use Rattle.log_laws.specs.Store.{Lawful}
 use Rattle.wal.specs.Cut.{Cut}
 use Rattle.wal.proofs.Fields.{wide32}
-use Rattle.wal.proofs.Histories.{after-append, first_in_front, record_in_front, size_of_log}
+use Rattle.log_laws.proofs.Histories.{after-append, first_in_front, record_in_front, size_of_log}
 use Rattle.wal.proofs.Whole.{body_size}
 use Rattle.device.specs.declared.traits.Sink.{Ghosts as Sink}
 use Rattle.recovery.specs.Devices.{AreCutOf, Leaves, LeavesCut}

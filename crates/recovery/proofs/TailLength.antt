@@ -5,13 +5,13 @@ use Rattle.std.specs.Prelude.{filter, flat_map}
 use Rattle.std.specs.Int.{w64, to_be_bytes}
 use Rattle.std.proofs.lemmas.Bool.{cases_Bool, cases_eq, false≢true}
 use Rattle.page.specs.Image.{Image}
-use Rattle.wal.specs.Records.{UpdateRecord, CompensationRecord, PlainRecord, LogRecord, Update, Compensation, Commit, Abort, End, Prepare, CheckpointBegin, CheckpointEnd, History, start, ◌▸◌, ◌▸▸◌, last_lsn, LogContent, history, lsn_before}
-use Rattle.wal.specs.Meaning.{owner, is_owned_by, is_of, has, is_loser, last_of}
+use Rattle.log_laws.specs.Records.{UpdateRecord, CompensationRecord, PlainRecord, LogRecord, Update, Compensation, Commit, Abort, End, Prepare, CheckpointBegin, CheckpointEnd, History, start, ◌▸◌, ◌▸▸◌, last_lsn, LogContent, history, lsn_before}
+use Rattle.log_laws.specs.Meaning.{owner, is_owned_by, is_of, has, is_loser, last_of}
 use Rattle.wal.specs.Spelling.{image, plain, update, compensation, fields, frame}
 use Rattle.wal.specs.Reads.{spellings}
-use Rattle.wal.specs.Tail.{Action, Finish, Undo, tx_for, record_for, records_for, is_empty, is_among, is_lowest, updates_where, is_stacked, undo_of, numbers_from, above_all, losers_of, left_of, left_to_do, tail_of}
-use Rattle.wal.proofs.Filters.{numbers_same}
-use Rattle.wal.proofs.Steps.{loser_has}
+use Rattle.log_laws.specs.Tail.{Action, Finish, Undo, tx_for, record_for, records_for, is_empty, is_among, is_lowest, updates_where, is_stacked, undo_of, numbers_from, above_all, losers_of, left_of, left_to_do, tail_of}
+use Rattle.log_laws.proofs.Filters.{numbers_same}
+use Rattle.log_laws.proofs.Steps.{loser_has}
 
 -- BYTES
 -- how many bytes the frame of a record takes

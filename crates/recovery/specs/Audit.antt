@@ -3,8 +3,8 @@ use Rattle.std.specs.Prelude.{ℕ, ◌⊎◌, List}
 use Rattle.page.specs.declared.fault.Fault.{Fault}
 use Rattle.page.specs.Store.{StoreContent}
 use Rattle.page.specs.File.{SpellsStore, StoreFault}
-use Rattle.wal.specs.Records.{LogContent}
-use Rattle.wal.specs.Meaning.{no_base}
+use Rattle.log_laws.specs.Records.{LogContent}
+use Rattle.log_laws.specs.Meaning.{no_base}
 use Rattle.wal.specs.Reads.{Reads, Cause as LogFault}
 use Rattle.audit.specs.FirstFault.{FirstFault}
 use Rattle.audit.specs.Base.{LawfulOver, FirstFaultOver}

@@ -6,10 +6,10 @@ use Rattle.page.specs.declared.page.Page.{Page}
 use Rattle.page.specs.Store.{StoreContent}
 use Rattle.page.specs.File.{SpellsStore, store_text}
 use Rattle.changes.specs.declared.pages.Pages.{Ghosts as Pages}
-use Rattle.wal.specs.Meaning.{BasePages}
-use Rattle.wal.specs.Records.{LogContent}
+use Rattle.log_laws.specs.Meaning.{BasePages}
+use Rattle.log_laws.specs.Records.{LogContent}
 use Rattle.wal.specs.Reads.{Reads, Cause as LogFault}
-use Rattle.wal.specs.Store.{Lawful}
+use Rattle.log_laws.specs.Store.{Lawful}
 use Rattle.restart.specs.Restart.{store_with}
 use Rattle.passes.specs.InPieces.{ForStore}
 use Rattle.passes.specs.declared.fault.PassFault.{PassFault}

@@ -5,11 +5,11 @@ use Rattle.page.specs.declared.fault.Fault.{Fault}
 use Rattle.page.specs.declared.fault.Fault.TheVariants.{WriteLog, WriteStore}
 use Rattle.page.specs.Store.{StoreContent}
 use Rattle.page.specs.File.{store_text}
-use Rattle.wal.specs.Meaning.{BasePages}
-use Rattle.wal.specs.Records.{LogContent}
-use Rattle.wal.specs.Tail.{with_tail}
+use Rattle.log_laws.specs.Meaning.{BasePages}
+use Rattle.log_laws.specs.Records.{LogContent}
+use Rattle.log_laws.specs.Tail.{with_tail}
 use Rattle.wal.specs.Reads.{log_text}
-use Rattle.wal.specs.Store.{store_out}
+use Rattle.log_laws.specs.Store.{store_out}
 use Rattle.device.specs.declared.traits.Sink.{Ghosts as Sink}
 use Rattle.device.specs.Transfer.{TookBeginning, Flushes}
 use Rattle.restart.specs.declared.options.Options.{Options}

@@ -9,8 +9,8 @@ use Rattle.page.specs.File.{SpellsStore, store_text}
 use Rattle.changes.specs.Changes.{PageChange}
 use Rattle.changes.specs.Pages.{ShowsChanges}
 use Rattle.page.specs.declared.lsns.StoreLsns.{StoreLsns}
-use Rattle.wal.specs.Meaning.{BasePages}
-use Rattle.wal.specs.Records.{LogContent}
+use Rattle.log_laws.specs.Meaning.{BasePages}
+use Rattle.log_laws.specs.Records.{LogContent}
 use Rattle.device.specs.declared.traits.Sink.{Ghosts as Sink}
 use Rattle.recovery.specs.declared.large_store.MadeLarge.{MadeLarge}
 use Rattle.recovery.specs.declared.tail_file.TailFile.{TailFile}

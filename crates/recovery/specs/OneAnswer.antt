@@ -3,7 +3,7 @@
 use Rattle.std.specs.Prelude.{◌≡◌, ℕ, List}
 use Rattle.page.specs.declared.fault.Fault.{Fault}
 use Rattle.page.specs.Causes.{HasOneCause, HasNoCause}
-use Rattle.wal.specs.Meaning.{no_base}
+use Rattle.log_laws.specs.Meaning.{no_base}
 use Rattle.recovery.specs.Text.{ReportContent}
 use Rattle.restart.specs.declared.options.Options.{Options}
 use Rattle.recovery.specs.Recovery.{Recovers, AreLawful, RecoveryCause}

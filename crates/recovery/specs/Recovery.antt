@@ -4,12 +4,12 @@ use Rattle.page.specs.declared.fault.Fault.{Fault}
 use Rattle.page.specs.declared.fault.Fault.TheVariants.{NoResource, BadWorkers, BadParting}
 use Rattle.page.specs.Store.{StoreContent}
 use Rattle.page.specs.File.{store_text, SpellsStore, StoreFault}
-use Rattle.wal.specs.Records.{LogContent, history, last_lsn, ◌⧺◌}
-use Rattle.wal.specs.Meaning.{BasePages, in_doubt}
-use Rattle.wal.specs.Tail.{in_doubt_of, losers_of, tail_of, with_tail}
+use Rattle.log_laws.specs.Records.{LogContent, history, last_lsn, ◌⧺◌}
+use Rattle.log_laws.specs.Meaning.{BasePages, in_doubt}
+use Rattle.log_laws.specs.Tail.{in_doubt_of, losers_of, tail_of, with_tail}
 use Rattle.wal.specs.Frames.{Gives}
 use Rattle.wal.specs.Reads.{Reads, log_text, spellings, Cause as LogFault}
-use Rattle.wal.specs.Store.{Lawful, store_out}
+use Rattle.log_laws.specs.Store.{Lawful, store_out}
 use Rattle.wal.specs.Cut.{Cut}
 use Rattle.undo.specs.declared.appended.Appended.{Appended}
 use Rattle.undo.specs.Appended.{appended_records}

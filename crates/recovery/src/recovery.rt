@@ -2,7 +2,7 @@
 
 ghost use Rattle.std.specs.Prelude.{◌≡◌, ◌≤◌, ◌<◌, ◌+◌, ◌*◌, ◌^◌, ℕ, length, min, IfOk, OnOk, IfErr, IsOkUnless};
 ghost use Rattle.page.specs.declared.fault.Fault.TheVariants.{NoResource};
-ghost use Rattle.wal.specs.Records.{history, last_lsn};
+ghost use Rattle.log_laws.specs.Records.{history, last_lsn};
 ghost use Rattle.undo.specs.Appended.{HaveUpdates, AreFit};
 ghost use Rattle.recovery.specs.Recovery.{report_of, ReportsOn, ForLawfulRead, ForRead, IsShortRestored, ReadCause, Remakes, RemakesLawful, RemakesRestart, RemakesRestored, appended_frames, frames_from};
 ghost use Rattle.restart.specs.Options.{AreInRange};

@@ -2,7 +2,7 @@
 
 ghost use Rattle.std.specs.Prelude.{OnOk, IfErr, IsOkUnless};
 ghost use Rattle.page.specs.declared.fault.Fault.TheVariants.{NoResource};
-ghost use Rattle.wal.specs.Meaning.{no_base};
+ghost use Rattle.log_laws.specs.Meaning.{no_base};
 ghost use Rattle.recovery.specs.Recovery.{AreLawful};
 ghost use Rattle.recovery.specs.Audit.{AuditFault, AreLawfulOver, AuditFaultOver};
 

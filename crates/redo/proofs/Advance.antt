@@ -10,9 +10,9 @@ use mathlib.Core.Logic.{dite}
 use native.Mathlib.Decide.{dec_lt}
 use Rattle.page.specs.Image.{Image}
 use Rattle.page.specs.declared.page.Page.{Page}
-use Rattle.wal.specs.Records.{LogRecord, Update, Compensation, History, start, ◌▸◌, last_lsn}
-use Rattle.wal.specs.Meaning.{Change, change_of, effects, writes, is_on, image_of}
-use Rattle.wal.specs.Redo.{is_redone, slots_in, held_by, last_where, applied}
+use Rattle.log_laws.specs.Records.{LogRecord, Update, Compensation, History, start, ◌▸◌, last_lsn}
+use Rattle.log_laws.specs.Meaning.{Change, change_of, effects, writes, is_on, image_of}
+use Rattle.log_laws.specs.Redo.{is_redone, slots_in, held_by, last_where, applied}
 use Rattle.redo.specs.Changes.{RedoPage, page_named, redo_page_at, put, changed_by, advance}
 use Rattle.redo.proofs.Slots.{set-tabulated, map-same, same_below}
 use Rattle.page.specs.declared.profile.TheConstants.{SLOTS}

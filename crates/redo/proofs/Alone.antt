@@ -5,7 +5,7 @@ use Rattle.std.proofs.lemmas.Bool.{cases_eq}
 use Rattle.std.proofs.lemmas.List.{ext_get_or, get_or-set_same, get_or-set_other, length-set, length-map, get_or-map}
 use Rattle.std.proofs.lemmas.Option.{slice_get-get_or, slice_get_within, get_or_from_slice_get}
 use Rattle.page.specs.Image.{Image}
-use Rattle.wal.specs.Records.{LogRecord}
+use Rattle.log_laws.specs.Records.{LogRecord}
 use Rattle.redo.specs.Changes.{RedoPage, page_named, put, advance}
 use Rattle.redo.specs.Routes.{StandsAlone}
 use Rattle.redo.specs.Parts.{numbers_of}

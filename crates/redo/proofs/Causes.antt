@@ -2,8 +2,8 @@
 use Rattle.std.proofs.Common.{◌≡◌, ℕ, zero, suc, ◌<◌, ◌≤◌, List, Some, length, refl, subst, arith}
 use Rattle.page.specs.declared.fault.Fault.{Fault}
 use Rattle.page.specs.declared.fault.Fault.TheVariants.{NoResource, NoSuchPage}
-use Rattle.wal.specs.Records.{LogRecord, history, record_at, last_lsn, LogContent, base_lsn}
-use Rattle.wal.proofs.Histories.{record_within, base_within, record_above}
+use Rattle.log_laws.specs.Records.{LogRecord, history, record_at, last_lsn, LogContent, base_lsn}
+use Rattle.log_laws.proofs.Histories.{record_within, base_within, record_above}
 use Rattle.redo.specs.declared.route.Route.{Route}
 use Rattle.redo.specs.Inputs.{InputContent}
 use Rattle.redo.specs.Parted.{PartedContent}

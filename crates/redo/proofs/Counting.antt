@@ -2,7 +2,7 @@
 use Rattle.std.proofs.Common.{◌≡◌, ℕ, ◌+◌, ◌<◌, ◌≤◌, ◌^◌, List, All, map, length, get_or, sym, ap, ◌∙◌, subst, arith}
 use Rattle.page.specs.Store.{AreNumbered}
 use Rattle.page.specs.declared.page.Page.{Page}
-use Rattle.wal.specs.Records.{LogContent, history, last_lsn, first, base_lsn}
+use Rattle.log_laws.specs.Records.{LogContent, history, last_lsn, first, base_lsn}
 use Rattle.redo.specs.declared.note.Note.{Note}
 use Rattle.redo.specs.declared.input.PartedInput.TheInside.{Inside}
 use Rattle.redo.specs.declared.route.Route.{Route}
@@ -11,7 +11,7 @@ use Rattle.redo.specs.Notes.{notes_at}
 use Rattle.redo.specs.Changes.{on_part, lsns_where, lsn_in, IsNote}
 use Rattle.redo.specs.Routes.{boundary_in, skipped_in, IsRoute, AreRoutes}
 use Rattle.redo.proofs.Stretches.{boundary_next, boundary_within, skipped_within, skipped_from}
-use Rattle.wal.proofs.Histories.{base_within}
+use Rattle.log_laws.proofs.Histories.{base_within}
 
 -- what the workers look at agrees, and each record of its log has an LSN
 pub record IsSound (parted : PartedContent) : Type 0 where

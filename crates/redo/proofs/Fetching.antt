@@ -9,9 +9,9 @@ use Rattle.page.specs.Image.{Image}
 use Rattle.page.specs.declared.page.Page.{Page}
 use Rattle.page.specs.Store.{AreNumbered}
 use Rattle.changes.specs.Changes.{page_put, page_lsn}
-use Rattle.wal.specs.Records.{History, record_at, last_lsn, base_lsn}
-use Rattle.wal.specs.Meaning.{image_in}
-use Rattle.wal.proofs.Histories.{record_none}
+use Rattle.log_laws.specs.Records.{History, record_at, last_lsn, base_lsn}
+use Rattle.log_laws.specs.Meaning.{image_in}
+use Rattle.log_laws.proofs.Histories.{record_none}
 use Rattle.tables.specs.Pieces.{IsPieceOf}
 use Rattle.redo.specs.declared.tally.Tally.{Tally}
 use Rattle.redo.specs.declared.wanted.Wanted.{Wanted}

@@ -1,7 +1,7 @@
 -- Redo has at most one error, and none if it succeeds.
 use Rattle.std.proofs.Common.{◌≡◌, ◌<◌, ℕ, refl, ap, arith}
 use Rattle.page.specs.declared.fault.Fault.TheVariants.{NoResource, BadWorkers, NoSuchPage}
-use Rattle.wal.specs.Records.{LogContent}
+use Rattle.log_laws.specs.Records.{LogContent}
 use Rattle.redo.specs.Redone.{IsFirstMissing, OneRedoFault, NoFaultOfRedo}
 
 not_earlier : (log : LogContent) (count redo_lsn a b : ℕ) → IsFirstMissing log count redo_lsn a → IsFirstMissing log count redo_lsn b → a < b → ⊥

@@ -12,10 +12,10 @@ use Rattle.std.proofs.lemmas.List.Elements.{All-push}
 use Rattle.std.proofs.lemmas.Option.{slice_get-get_or, same_Some}
 use Rattle.wal.specs.Spelling.{Fits}
 use Rattle.redo.specs.declared.note.Note.{Note}
-use Rattle.wal.specs.Records.{LogRecord, LogContent, Update, Compensation, History, ◌▸◌, last_lsn, history, record_at, first, base_lsn}
-use Rattle.wal.proofs.Histories.{size_of_first, size_of_first_le}
+use Rattle.log_laws.specs.Records.{LogRecord, LogContent, Update, Compensation, History, ◌▸◌, last_lsn, history, record_at, first, base_lsn}
+use Rattle.log_laws.proofs.Histories.{size_of_first, size_of_first_le}
 use Rattle.redo.specs.Changes.{page_named, part_of_page, is_part, IsNote, NamesBelow, on_part, lsns_where, lsn_in}
-use Rattle.wal.specs.Meaning.{cell_of}
+use Rattle.log_laws.specs.Meaning.{cell_of}
 use Rattle.redo.specs.Inputs.{InputContent}
 use Rattle.redo.specs.Routes.{ExistWithin, NoteFault, RouteFault}
 use Rattle.redo.proofs.Routes.{lsns_none}

@@ -6,8 +6,8 @@ use Rattle.page.specs.declared.fault.Fault.{Fault}
 use Rattle.page.specs.declared.fault.Fault.TheVariants.{NoResource, NoSuchPage}
 use Rattle.wal.specs.declared.glance.Glance.{Glance}
 use Rattle.wal.specs.Glances.{glance_of, IsGlanceBehind}
-use Rattle.wal.specs.Records.{LogRecord, LogContent, history, record_at}
-use Rattle.wal.proofs.Histories.{record_above, record_within}
+use Rattle.log_laws.specs.Records.{LogRecord, LogContent, history, record_at}
+use Rattle.log_laws.proofs.Histories.{record_above, record_within}
 use Rattle.redo.specs.declared.tally.Tally.{Tally}
 use Rattle.redo.specs.Inputs.{InputContent}
 use Rattle.redo.specs.Changes.{NamesBelow, advance}

@@ -7,10 +7,10 @@ use Rattle.std.proofs.Math.Seq.{get_or-append_seam}
 use Rattle.page.specs.Store.{AreNumbered}
 use Rattle.page.specs.declared.fault.Fault.{Fault}
 use Rattle.page.specs.declared.fault.Fault.TheVariants.{NoResource, NoSuchPage}
-use Rattle.wal.specs.Records.{LogRecord, start, history, record_at, first, last_lsn, base_lsn}
-use Rattle.wal.specs.Meaning.{cell_of}
-use Rattle.wal.specs.Redo.{rec_lsn_of, applied}
-use Rattle.wal.proofs.Histories.{behind, size_of_first, first_all, base_within}
+use Rattle.log_laws.specs.Records.{LogRecord, start, history, record_at, first, last_lsn, base_lsn}
+use Rattle.log_laws.specs.Meaning.{cell_of}
+use Rattle.log_laws.specs.Redo.{rec_lsn_of, applied}
+use Rattle.log_laws.proofs.Histories.{behind, size_of_first, first_all, base_within}
 use Rattle.redo.specs.declared.tally.Tally.{Tally}
 use Rattle.redo.specs.Inputs.{InputContent}
 use Rattle.redo.specs.Changes.{RedoPage, page_named, advance, counted}

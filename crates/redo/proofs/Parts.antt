@@ -8,8 +8,8 @@ use Rattle.std.proofs.lemmas.Simd.{map-map}
 use Rattle.std.proofs.Math.Seq.{take-suc}
 use mathlib.Core.Path.{fun_ext}
 use Rattle.page.specs.Store.{AreNumbered}
-use Rattle.wal.specs.Records.{LogRecord, History, history, record_at, last_lsn, first}
-use Rattle.wal.proofs.Histories.{first_all}
+use Rattle.log_laws.specs.Records.{LogRecord, History, history, record_at, last_lsn, first}
+use Rattle.log_laws.proofs.Histories.{first_all}
 use Rattle.redo.specs.Changes.{RedoPage, advance_by, step}
 use Rattle.redo.specs.Parted.{PartedContent}
 use Rattle.redo.specs.Parts.{redo_page_in, image_at, numbers_of, IsUpTo, IsWhollyRedone, HasPart}

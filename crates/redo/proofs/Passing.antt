@@ -7,9 +7,9 @@ use Rattle.page.specs.declared.fault.Fault.{Fault}
 use Rattle.page.specs.declared.fault.Fault.TheVariants.{NoResource, NoSuchPage}
 use Rattle.page.specs.declared.page.Page.{Page}
 use Rattle.tables.specs.Tables.{TablesContent}
-use Rattle.wal.specs.Records.{LogRecord, LogContent, start, history, record_at, last_lsn, base_lsn}
-use Rattle.wal.specs.Redo.{rec_lsn_of, is_redone}
-use Rattle.wal.proofs.Histories.{base_within, first_at_base, record_above, record_within}
+use Rattle.log_laws.specs.Records.{LogRecord, LogContent, start, history, record_at, last_lsn, base_lsn}
+use Rattle.log_laws.specs.Redo.{rec_lsn_of, is_redone}
+use Rattle.log_laws.proofs.Histories.{base_within, first_at_base, record_above, record_within}
 use Rattle.redo.specs.declared.tally.Tally.{Tally}
 use Rattle.redo.specs.Inputs.{InputContent, input_over}
 use Rattle.redo.specs.Changes.{NamesBelow, advance, counted}

@@ -10,11 +10,11 @@ use Rattle.std.proofs.lemmas.Option.{slice_get-get_or, slice_get_within, same_So
 use mathlib.Core.Path.{fun_ext}
 use Rattle.page.specs.declared.page.Page.{Page}
 use Rattle.page.specs.Store.{AreNumbered}
-use Rattle.wal.specs.Records.{LogRecord, History, start, ◌▸◌, last_lsn, history, record_at, first, base_lsn}
-use Rattle.wal.specs.Meaning.{cell_of}
+use Rattle.log_laws.specs.Records.{LogRecord, History, start, ◌▸◌, last_lsn, history, record_at, first, base_lsn}
+use Rattle.log_laws.specs.Meaning.{cell_of}
 use Rattle.std.proofs.lemmas.List.FromFn.{length-map-range_with_len, get_or-map-range_with_len}
-use Rattle.wal.specs.Redo.{is_redone, applied, rec_lsn_of, slots_in, held_by}
-use Rattle.wal.proofs.Histories.{behind, size_of_first, size_of_first_le, first_none, record_in_first, record_more, record_last, record_within, base_within, first_base}
+use Rattle.log_laws.specs.Redo.{is_redone, applied, rec_lsn_of, slots_in, held_by}
+use Rattle.log_laws.proofs.Histories.{behind, size_of_first, size_of_first_le, first_none, record_in_first, record_more, record_last, record_within, base_within, first_base}
 use Rattle.redo.specs.declared.note.Note.{Note}
 use Rattle.redo.specs.Changes.{RedoPage, page_named, lsn_in, IsNote, part_of_page, is_part, on_part, lsns_where, redo_page_at, advance, advance_by, step}
 use Rattle.redo.specs.Parting.{AreMembers}

@@ -8,7 +8,7 @@ use mathlib.Core.Logic.{dite}
 use native.Mathlib.Decide.{dec_lt}
 use Rattle.page.specs.declared.fault.Fault.{Fault}
 use Rattle.page.specs.declared.fault.Fault.TheVariants.{NoResource, NoSuchPage}
-use Rattle.wal.specs.Records.{LogRecord, History, start, ◌▸◌, last_lsn, history, LogContent}
+use Rattle.log_laws.specs.Records.{LogRecord, History, start, ◌▸◌, last_lsn, history, LogContent}
 use Rattle.redo.specs.Changes.{lsns_where}
 use Rattle.redo.specs.Inputs.{InputContent}
 use Rattle.redo.specs.Parted.{PartedContent}

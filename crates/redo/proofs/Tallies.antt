@@ -6,10 +6,10 @@ use Rattle.std.proofs.lemmas.Bool.{cases_Bool}
 use Rattle.std.proofs.lemmas.List.{length-map, get_or-map, map-set}
 use Rattle.std.proofs.lemmas.Option.{same_Some}
 use Rattle.page.specs.Image.{Image}
-use Rattle.wal.specs.Records.{LogRecord, History, start, history, record_at}
-use Rattle.wal.specs.Meaning.{cell_of, Change, change_of, image_put, image_of, image_in}
-use Rattle.wal.specs.Redo.{is_redone, rec_lsn_of}
-use Rattle.wal.proofs.Histories.{record_none}
+use Rattle.log_laws.specs.Records.{LogRecord, History, start, history, record_at}
+use Rattle.log_laws.specs.Meaning.{cell_of, Change, change_of, image_put, image_of, image_in}
+use Rattle.log_laws.specs.Redo.{is_redone, rec_lsn_of}
+use Rattle.log_laws.proofs.Histories.{record_none}
 use Rattle.redo.specs.declared.tally.Tally.{Tally}
 use Rattle.redo.specs.declared.note.Note.{Note}
 use Rattle.redo.specs.Changes.{RedoPage, put, changed_by, advance, advance_by, step, counted, held_after, slots_after}

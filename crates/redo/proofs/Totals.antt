@@ -5,9 +5,9 @@ use Rattle.std.proofs.lemmas.List.Sums.{sum-map}
 use Rattle.std.proofs.lemmas.List.Recursion.{is_sum_by}
 use Rattle.page.specs.declared.page.Page.{Page}
 use Rattle.page.specs.Store.{AreNumbered}
-use Rattle.wal.specs.Records.{LogRecord, Update, Compensation, History, start, ◌▸◌, last_lsn}
-use Rattle.wal.specs.Meaning.{is_on}
-use Rattle.wal.specs.Redo.{is_redone, rec_lsn_of, applied}
+use Rattle.log_laws.specs.Records.{LogRecord, Update, Compensation, History, start, ◌▸◌, last_lsn}
+use Rattle.log_laws.specs.Meaning.{is_on}
+use Rattle.log_laws.specs.Redo.{is_redone, rec_lsn_of, applied}
 
 -- a record is on one page at most
 on_one : (r : LogRecord) (p q : ℕ) → is_on p r ≡ true → is_on q r ≡ true → p ≡ q

@@ -3,9 +3,9 @@ use Rattle.std.specs.Prelude.{◌≡◌, ℕ, suc, ◌<◌, List, [], ◌∷◌,
 use Rattle.std.specs.List.{slice_get}
 use Rattle.page.specs.Image.{Image}
 use Rattle.page.specs.declared.page.Page.{Page}
-use Rattle.wal.specs.Records.{LogRecord, History, start, ◌▸◌, last_lsn, record_at}
-use Rattle.wal.specs.Meaning.{Change, change_of, cell_of, image_in}
-use Rattle.wal.specs.Redo.{is_redone, redo_of, applied}
+use Rattle.log_laws.specs.Records.{LogRecord, History, start, ◌▸◌, last_lsn, record_at}
+use Rattle.log_laws.specs.Meaning.{Change, change_of, cell_of, image_in}
+use Rattle.log_laws.specs.Redo.{is_redone, redo_of, applied}
 use Rattle.redo.specs.declared.tally.Tally.{Tally}
 use Rattle.redo.specs.declared.note.Note.{Note}
 use Rattle.page.specs.declared.profile.TheConstants.{SLOTS}

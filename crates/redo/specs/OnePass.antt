@@ -1,6 +1,6 @@
 -- The tallies of all pages during one pass over the records (own).
 use Rattle.std.specs.Prelude.{◌≡◌, ℕ, ◌<◌, List, length, slice_index_or}
-use Rattle.wal.specs.Records.{history, first}
+use Rattle.log_laws.specs.Records.{history, first}
 use Rattle.redo.specs.declared.tally.Tally.{Tally}
 use Rattle.redo.specs.Inputs.{InputContent}
 use Rattle.redo.specs.Parts.{redo_page_in, image_at, resolved}

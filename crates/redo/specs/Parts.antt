@@ -2,8 +2,8 @@
 use Rattle.std.specs.Prelude.{◌≡◌, ℕ, ◌<◌, List, [], All, Contains, Some, false, length, slice_index_or, replicate, None, map}
 use Rattle.std.specs.List.{slice_get}
 use Rattle.page.specs.declared.page.Page.{Page}
-use Rattle.wal.specs.Records.{History, history, first}
-use Rattle.wal.specs.Redo.{rec_lsn_of}
+use Rattle.log_laws.specs.Records.{History, history, first}
+use Rattle.log_laws.specs.Redo.{rec_lsn_of}
 use Rattle.board.specs.Drawn.{BoardId, AllEnded}
 use Rattle.redo.specs.declared.tally.Tally.{Tally}
 use Rattle.redo.specs.declared.crew.Worker.{Worker}

@@ -6,10 +6,10 @@ use Rattle.page.specs.declared.fault.Fault.TheVariants.{NoResource, NoSuchPage}
 use Rattle.page.specs.declared.page.Page.{Page}
 use Rattle.page.specs.Store.{AreNumbered}
 use Rattle.page.specs.declared.profile.TheConstants.{SLOTS}
-use Rattle.wal.specs.Records.{LogRecord, LogContent, history, record_at, base_lsn, start}
+use Rattle.log_laws.specs.Records.{LogRecord, LogContent, history, record_at, base_lsn, start}
 use Rattle.wal.specs.declared.glance.Glance.{Glance}
 use Rattle.wal.specs.Glances.{glance_of}
-use Rattle.wal.specs.Redo.{rec_lsn_of}
+use Rattle.log_laws.specs.Redo.{rec_lsn_of}
 use Rattle.tables.specs.Tables.{TablesContent}
 use Rattle.tables.specs.Pieces.{IsPieceOf}
 use Rattle.redo.specs.declared.tally.Tally.{Tally}

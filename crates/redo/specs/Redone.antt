@@ -4,8 +4,8 @@ use Rattle.page.specs.declared.fault.Fault.{Fault}
 use Rattle.page.specs.declared.fault.Fault.TheVariants.{NoResource, BadWorkers, NoSuchPage}
 use Rattle.page.specs.declared.page.Page.{Page}
 use Rattle.page.specs.Causes.{HasOneCause, HasNoCause}
-use Rattle.wal.specs.Records.{LogRecord, LogContent, history, record_at}
-use Rattle.wal.specs.Redo.{rec_lsn_of, redo_of, applied}
+use Rattle.log_laws.specs.Records.{LogRecord, LogContent, history, record_at}
+use Rattle.log_laws.specs.Redo.{rec_lsn_of, redo_of, applied}
 use Rattle.tables.specs.Tables.{TablesContent}
 use Rattle.redo.specs.Changes.{NamesBelow}
 use Rattle.redo.specs.declared.rounds.TheConstants.{WORKERS}

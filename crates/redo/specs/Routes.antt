@@ -3,8 +3,8 @@ use Rattle.std.specs.Prelude.{◌≡◌, ℕ, ◌+◌, ◌-◌, ◌*◌, ◌/◌
 use Rattle.std.specs.List.{slice_get}
 use Rattle.page.specs.declared.fault.Fault.{Fault}
 use Rattle.page.specs.declared.fault.Fault.TheVariants.{NoResource, NoSuchPage}
-use Rattle.wal.specs.Records.{LogRecord, History, LogContent, history, last_lsn, record_at, first, base_lsn}
-use Rattle.wal.specs.Meaning.{cell_of}
+use Rattle.log_laws.specs.Records.{LogRecord, History, LogContent, history, last_lsn, record_at, first, base_lsn}
+use Rattle.log_laws.specs.Meaning.{cell_of}
 use Rattle.wal.specs.declared.glance.Glance.{Glance}
 use Rattle.wal.specs.Glances.{glance_of}
 use Rattle.wal.specs.Spelling.{Fits}

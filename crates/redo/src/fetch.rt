@@ -5,7 +5,7 @@ ghost use Rattle.std.specs.List.Sorted.{IsNonDecreasingBy};
 ghost use Rattle.page.specs.declared.fault.Fault.TheVariants.{NoResource};
 ghost use Rattle.page.specs.declared.page.Page.{Page};
 ghost use Rattle.page.specs.declared.profile.TheConstants.{SLOTS};
-ghost use Rattle.wal.specs.Records.{History, history, last_lsn};
+ghost use Rattle.log_laws.specs.Records.{History, history, last_lsn};
 ghost use Rattle.changes.specs.Changes.{page_lsn};
 ghost use Rattle.changes.specs.Numbered.{StayNumbered};
 ghost use Rattle.tables.specs.Pieces.{IsPieceOf};

@@ -3,7 +3,7 @@
 ghost use Rattle.std.specs.Prelude.{◌≡◌, ℕ, None, ◌<◌, ◌^◌, length, slice_index_or};
 ghost use Rattle.std.specs.List.{sum_by};
 ghost use Rattle.page.specs.declared.page.Page.{Page};
-ghost use Rattle.wal.specs.Records.{history, record_at};
+ghost use Rattle.log_laws.specs.Records.{history, record_at};
 ghost use Rattle.redo.specs.Changes.{slots_after, finished_page};
 ghost use Rattle.redo.specs.declared.tally.Tally.{Tally};
 ghost use Rattle.page.specs.declared.profile.TheConstants.{SLOTS};

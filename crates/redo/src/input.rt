@@ -2,7 +2,7 @@
 //! partition too.
 
 ghost use Rattle.std.specs.Prelude.{◌≡◌, length};
-ghost use Rattle.wal.specs.Records.{history, base_lsn, last_lsn};
+ghost use Rattle.log_laws.specs.Records.{history, base_lsn, last_lsn};
 ghost use Rattle.redo.specs.Routes.{skipped, skipped_in};
 
 use crate::Parting;

@@ -2,7 +2,7 @@
 
 ghost use Rattle.std.specs.Prelude.{◌≡◌, ℕ, ◌+◌, ◌<◌, ◌≤◌, All, Some, length, slice_index_or, IfOk, OnOk, IfErr, IsOkUnless};
 ghost use Rattle.page.specs.declared.fault.Fault.TheVariants.{NoResource};
-ghost use Rattle.wal.specs.Records.{LogRecord, history, record_at, last_lsn, base_lsn};
+ghost use Rattle.log_laws.specs.Records.{LogRecord, history, record_at, last_lsn, base_lsn};
 ghost use Rattle.redo.specs.Inputs.{input_over};
 ghost use Rattle.redo.specs.Changes.{NamesBelow, advance};
 ghost use Rattle.redo.specs.Routes.{skipped_in, NoteFault};

@@ -3,8 +3,8 @@
 ghost use Rattle.std.specs.Prelude.{◌≡◌, ℕ, ◌+◌, ◌<◌, ◌^◌, All, length, map, slice_set, slice_index_or, IfOk, OnOk, Some, IsOkUnless};
 ghost use Rattle.std.specs.List.{fold};
 ghost use Rattle.page.specs.declared.fault.Fault.TheVariants.{NoResource};
-ghost use Rattle.wal.specs.Records.{start, history, base_lsn};
-ghost use Rattle.wal.specs.Redo.{rec_lsn_of};
+ghost use Rattle.log_laws.specs.Records.{start, history, base_lsn};
+ghost use Rattle.log_laws.specs.Redo.{rec_lsn_of};
 ghost use Rattle.tables.specs.Tables.{TablesContent};
 ghost use Rattle.redo.specs.Changes.{counted, step, lsn_in};
 ghost use Rattle.redo.specs.Routes.{AreRoutes, Stands};

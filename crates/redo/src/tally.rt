@@ -1,7 +1,7 @@
 //! A page during redo, by LSNs only: which record is the last in each of its slots.
 
 ghost use Rattle.std.specs.Prelude.{◌≡◌, ◌+◌, ◌<◌, ◌^◌};
-ghost use Rattle.wal.specs.Redo.{is_redone};
+ghost use Rattle.log_laws.specs.Redo.{is_redone};
 ghost use Rattle.redo.specs.Changes.{counted};
 ghost use Rattle.redo.specs.Placed.{untouched};
 ghost use Rattle.page.specs.declared.profile.TheConstants.{SLOTS};

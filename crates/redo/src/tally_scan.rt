@@ -5,7 +5,7 @@ ghost use Rattle.std.specs.List.{sum_by};
 ghost use Rattle.std.specs.List.Sorted.{IsNonDecreasingBy};
 ghost use Rattle.page.specs.declared.fault.Fault.TheVariants.{NoResource};
 ghost use Rattle.page.specs.Store.{AreNumbered};
-ghost use Rattle.wal.specs.Records.{LogRecord, LogContent, History, history, last_lsn, base_lsn};
+ghost use Rattle.log_laws.specs.Records.{LogRecord, LogContent, History, history, last_lsn, base_lsn};
 ghost use Rattle.wal.specs.Glances.{glance_of};
 ghost use Rattle.tables.specs.Tables.{TablesContent};
 ghost use Rattle.changes.specs.Numbered.{StayNumbered};

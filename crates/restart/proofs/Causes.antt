@@ -3,7 +3,7 @@ use Rattle.std.proofs.Common.{ℕ, List, length, inl, inr}
 use Rattle.page.specs.declared.fault.Fault.{Fault}
 use Rattle.page.specs.declared.fault.Fault.TheVariants.{NoResource, BadWorkers, BadParting, BadMaster, PageAheadOfLog, NoSuchPage, BrokenChain}
 use Rattle.page.specs.Store.{StoreContent}
-use Rattle.wal.specs.Records.{history, LogContent, TableEntry}
+use Rattle.log_laws.specs.Records.{history, LogContent, TableEntry}
 use Rattle.tables.specs.Tables.{TablesContent, losers_in}
 use Rattle.analysis.specs.Tables.{AreTablesOf, AreTransactionsOf, BaseFault, tables_with}
 use Rattle.analysis.proofs.Halves.{both_halves}

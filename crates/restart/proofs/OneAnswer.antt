@@ -2,8 +2,8 @@
 use Rattle.std.proofs.Common.{◌≡◌, List, map, length, sym, ap, ap₂, ◌∙◌}
 use Rattle.std.specs.Prelude.{sum}
 use Rattle.page.specs.declared.page.Page.{Page}
-use Rattle.wal.specs.Records.{history}
-use Rattle.wal.specs.Undo.{doubtful_in, undone_by}
+use Rattle.log_laws.specs.Records.{history}
+use Rattle.log_laws.specs.Undo.{doubtful_in, undone_by}
 use Rattle.tables.specs.Tables.{TablesContent, losers_in}
 use Rattle.analysis.specs.Tables.{OneTables}
 use Rattle.redo.specs.Redone.{redone_page, applied_to}

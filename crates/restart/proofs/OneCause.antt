@@ -8,7 +8,7 @@ use Rattle.page.specs.declared.fault.Fault.{Fault}
 use Rattle.page.specs.declared.fault.Fault.TheVariants.{NoResource, BadWorkers, BadParting, BadMaster, PageAheadOfLog, NoSuchPage, BrokenChain}
 use Rattle.page.specs.Causes.{HasOneCause}
 use Rattle.page.specs.Store.{StoreContent}
-use Rattle.wal.specs.Records.{TableEntry, history, LogContent, last_lsn}
+use Rattle.log_laws.specs.Records.{TableEntry, history, LogContent, last_lsn}
 use Rattle.tables.specs.Tables.{TablesContent, losers_in}
 use Rattle.analysis.specs.Tables.{AreTablesOf, OneTables, base_of}
 use Rattle.redo.specs.Parting.{PartingContent}

@@ -9,21 +9,21 @@ use Rattle.page.specs.declared.page.Page.{Page}
 use Rattle.page.specs.declared.fault.Fault.{Fault}
 use Rattle.page.specs.declared.fault.Fault.TheVariants.{NoResource, BadWorkers, BadMaster, PageAheadOfLog, NoSuchPage}
 use Rattle.page.specs.Store.{StoreContent, AreNumbered}
-use Rattle.wal.specs.Records.{LogRecord, tx_in, Update, Compensation, History, start, ◌▸◌, ◌▸▸◌, lsn_before, history, last_lsn, LogContent, ◌⧺◌}
-use Rattle.wal.specs.Meaning.{BasePages, Cells, in_doubt, effects, replay, writes, image_of, is_on, last_on}
-use Rattle.wal.specs.Redo.{held_by, last_where, slots_in}
-use Rattle.wal.specs.Checkpoint.{true_table, checkpoint_at}
-use Rattle.wal.specs.Store.{Lawful, NamesPages, store_out, page_out}
-use Rattle.wal.specs.Tail.{in_doubt_of, losers_of, tail_of, with_tail}
-use Rattle.wal.specs.Undo.{lost_in, doubtful_in}
-use Rattle.wal.specs.Theorems.{replayed_page, TellsDoubt}
-use Rattle.wal.proofs.Histories.{after-append}
-use Rattle.wal.proofs.Lists.{replay_is_winners, tail_settles}
-use Rattle.wal.proofs.Pages.{same_slots, slot_held}
-use Rattle.wal.proofs.Redone.{redo_suffices}
-use Rattle.wal.proofs.Settled.{store_settles}
-use Rattle.wal.proofs.Ends.{losers_end}
-use Rattle.wal.proofs.Undone.{table_tells_doubt}
+use Rattle.log_laws.specs.Records.{LogRecord, tx_in, Update, Compensation, History, start, ◌▸◌, ◌▸▸◌, lsn_before, history, last_lsn, LogContent, ◌⧺◌}
+use Rattle.log_laws.specs.Meaning.{BasePages, Cells, in_doubt, effects, replay, writes, image_of, is_on, last_on}
+use Rattle.log_laws.specs.Redo.{held_by, last_where, slots_in}
+use Rattle.log_laws.specs.Checkpoint.{true_table, checkpoint_at}
+use Rattle.log_laws.specs.Store.{Lawful, NamesPages, store_out, page_out}
+use Rattle.log_laws.specs.Tail.{in_doubt_of, losers_of, tail_of, with_tail}
+use Rattle.log_laws.specs.Undo.{lost_in, doubtful_in}
+use Rattle.log_laws.specs.Theorems.{replayed_page, TellsDoubt}
+use Rattle.log_laws.proofs.Histories.{after-append}
+use Rattle.log_laws.proofs.Lists.{replay_is_winners, tail_settles}
+use Rattle.log_laws.proofs.Pages.{same_slots, slot_held}
+use Rattle.log_laws.proofs.Redone.{redo_suffices}
+use Rattle.log_laws.proofs.Settled.{store_settles}
+use Rattle.log_laws.proofs.Ends.{losers_end}
+use Rattle.log_laws.proofs.Undone.{table_tells_doubt}
 use Rattle.tables.specs.Tables.{TablesContent, losers_in}
 use Rattle.analysis.specs.Tables.{base_of, BaseFault}
 use Rattle.tables.specs.Lawful.{AreTrue}

@@ -1,8 +1,8 @@
 -- The dirty pages that redo needed are all, if redo has found each page.
 use Rattle.std.proofs.Common.{ℕ, ◌≡◌, List, Option, Some, None, true, eqb-true, sym, ap, subst, arith}
 use Rattle.std.specs.Prelude.{option_map}
-use Rattle.wal.specs.Records.{LogRecord, LogContent, history}
-use Rattle.wal.specs.Meaning.{Change, change_of, is_on, is_on_page}
+use Rattle.log_laws.specs.Records.{LogRecord, LogContent, history}
+use Rattle.log_laws.specs.Meaning.{Change, change_of, is_on, is_on_page}
 use Rattle.analysis.specs.Tables.{AreDirtyPagesOf, AreBelow, ServesRedo}
 use Rattle.redo.specs.Changes.{page_named}
 use Rattle.redo.specs.Redone.{AllExist}

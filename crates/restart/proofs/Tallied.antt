@@ -3,8 +3,8 @@ use Rattle.std.proofs.Common.{ℕ, ◌≡◌, ◌+◌, ◌<◌, ◌++◌, Bool, 
 use Rattle.std.specs.Prelude.{filter}
 use Rattle.std.proofs.lemmas.Bool.{cases_Bool}
 use Rattle.std.proofs.lemmas.List.{take_more, map_push}
-use Rattle.wal.specs.Records.{LogRecord, Update, LogContent, history, record_at}
-use Rattle.wal.specs.Tail.{is_clr, is_end}
+use Rattle.log_laws.specs.Records.{LogRecord, Update, LogContent, history, record_at}
+use Rattle.log_laws.specs.Tail.{is_clr, is_end}
 use Rattle.undo.specs.declared.appended.Appended.{Appended}
 use Rattle.undo.specs.declared.appended.Appended.TheVariants as brief
 use Rattle.undo.specs.Appended.{IsUpdate, HasUpdate, HaveUpdates, clr_of, record_of, appended_records}

@@ -1,6 +1,6 @@
 -- A log of which all is looked at.
 use Rattle.std.proofs.Common.{List, refl, inl}
-use Rattle.wal.specs.Records.{TableEntry, History}
+use Rattle.log_laws.specs.Records.{TableEntry, History}
 use Rattle.undo.specs.Enough.{AreGathered}
 
 -- the log itself is enough as what is gathered of it

@@ -4,7 +4,7 @@ use Rattle.std.specs.Prelude.{◌≡◌, ℕ, length}
 use Rattle.page.specs.declared.fault.Fault.{Fault}
 use Rattle.page.specs.Causes.{HasOneCause, HasNoCause}
 use Rattle.page.specs.Store.{StoreContent}
-use Rattle.wal.specs.Records.{LogContent}
+use Rattle.log_laws.specs.Records.{LogContent}
 use Rattle.redo.specs.Parting.{PartingContent}
 use Rattle.restart.specs.Outcome.{OutcomeContent}
 use Rattle.restart.specs.Restart.{SettingsFault, Restarts, RestartFault}

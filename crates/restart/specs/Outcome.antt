@@ -1,7 +1,7 @@
 -- The result of a restart, as the laws see it (own).
 use Rattle.std.specs.Prelude.{ℕ, List, map}
 use Rattle.page.specs.Store.{StoreContent}
-use Rattle.wal.specs.Records.{LogRecord, History}
+use Rattle.log_laws.specs.Records.{LogRecord, History}
 use Rattle.wal.specs.Content.{content}
 use Rattle.wal.specs.declared.record.Record.{Record}
 use Rattle.undo.specs.declared.appended.Appended.{Appended}

@@ -7,12 +7,12 @@ use Rattle.page.specs.declared.page.Page.{Page}
 use Rattle.page.specs.Store.{StoreContent, AreNumbered}
 use Rattle.changes.specs.declared.pages.Pages.{Ghosts as Pages}
 use Rattle.wal.specs.Content.{entry_of}
-use Rattle.wal.specs.Records.{LogRecord, LogContent, history, ◌⧺◌, last_lsn}
+use Rattle.log_laws.specs.Records.{LogRecord, LogContent, history, ◌⧺◌, last_lsn}
 use Rattle.wal.specs.declared.record.Entry.{Entry}
-use Rattle.wal.specs.Meaning.{BasePages, in_doubt, is_loser}
-use Rattle.wal.specs.Tail.{is_clr, is_end, in_doubt_of, losers_of, tail_of}
-use Rattle.wal.specs.Undo.{doubtful_in}
-use Rattle.wal.specs.Store.{Lawful, store_out}
+use Rattle.log_laws.specs.Meaning.{BasePages, in_doubt, is_loser}
+use Rattle.log_laws.specs.Tail.{is_clr, is_end, in_doubt_of, losers_of, tail_of}
+use Rattle.log_laws.specs.Undo.{doubtful_in}
+use Rattle.log_laws.specs.Store.{Lawful, store_out}
 use Rattle.tables.specs.Lawful.{AreTrue}
 use Rattle.tables.specs.Tables.{TablesContent, losers_in}
 use Rattle.analysis.specs.Tables.{AreTablesOf, AreTransactionsOf, AreDirtyPagesOf, BaseFault, base_of}

@@ -2,7 +2,7 @@
 
 ghost use Rattle.std.specs.Prelude.{◌≡◌, IfOk, IsOkUnless};
 ghost use Rattle.page.specs.declared.fault.Fault.TheVariants.{NoResource};
-ghost use Rattle.wal.specs.Undo.{is_prepared, doubtful_in};
+ghost use Rattle.log_laws.specs.Undo.{is_prepared, doubtful_in};
 ghost use Rattle.restart.specs.Restart.{AreAllButLosers};
 
 use page::Fault;

@@ -4,8 +4,8 @@
 
 ghost use Rattle.std.specs.Prelude.{◌≡◌, true, None, is_some, IfSome, IfOk, IfErr, length};
 ghost use Rattle.std.specs.Option.{ForSome};
-ghost use Rattle.wal.specs.Records.{history};
-ghost use Rattle.wal.specs.Undo.{entry_for};
+ghost use Rattle.log_laws.specs.Records.{history};
+ghost use Rattle.log_laws.specs.Undo.{entry_for};
 ghost use Rattle.analysis.specs.Tables.{BaseFault, entry_at};
 ghost use Rattle.restart.specs.Restart.{AreSettings, NoneAhead, IsRedone, RedoesPages, AreEntriesOf, FindsTrueTables, ForwardFault, InputFault};
 

@@ -2,7 +2,7 @@
 
 ghost use Rattle.std.specs.Prelude.{◌≡◌, IfOk, IsOkUnless};
 ghost use Rattle.page.specs.declared.fault.Fault.TheVariants.{NoResource};
-ghost use Rattle.wal.specs.Records.{history};
+ghost use Rattle.log_laws.specs.Records.{history};
 ghost use Rattle.undo.specs.Appended.{HaveUpdates};
 ghost use Rattle.restart.specs.Outcome.{outcome_of, outcome_in};
 

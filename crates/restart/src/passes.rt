@@ -3,7 +3,7 @@
 ghost use Rattle.std.specs.Prelude.{◌≡◌, ◌<◌, ◌≤◌, ◌+◌, ◌*◌, ◌^◌, length, IfOk, OnOk, IfErr};
 ghost use Rattle.page.specs.Store.{AreNumbered};
 ghost use Rattle.changes.specs.Numbered.{StayNumbered};
-ghost use Rattle.wal.specs.Records.{history};
+ghost use Rattle.log_laws.specs.Records.{history};
 ghost use Rattle.undo.specs.Appended.{HaveUpdates, AreFit};
 ghost use Rattle.undo.specs.Enough.{AppendsAlike};
 ghost use Rattle.undo.specs.Undone.{HasNoTransaction0, AreWritable};

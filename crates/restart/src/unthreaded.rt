@@ -1,7 +1,7 @@
 //! Restart without threads.
 
 ghost use Rattle.std.specs.Prelude.{◌≤◌, ◌+◌, ◌*◌, ◌^◌, length, IfOk, IfErr};
-ghost use Rattle.wal.specs.Records.{history};
+ghost use Rattle.log_laws.specs.Records.{history};
 ghost use Rattle.undo.specs.Appended.{HaveUpdates, AreFit};
 ghost use Rattle.restart.specs.Outcome.{outcome_in};
 ghost use Rattle.restart.specs.Restart.{Restarts, RestoresLawful, InputFault};

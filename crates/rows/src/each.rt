@@ -5,7 +5,7 @@ use crate::verdict::Verdict;
 use anyhow::Result;
 use aries::Fault;
 use std::rt::Files;
-use wal::{Log, read_log};
+use wal::{Log, header_bytes, read_log};
 
 /// How many bytes the frames of a log's records take, each record looked up by its LSN; `None` if
 /// one of these LSNs has no record.
@@ -23,7 +23,7 @@ fn is_whole(log: &Log, torn: usize, bytes: usize) -> bool {
     let Some(frames) = frames_of(log) else {
         return false;
     };
-    let header = log.start().header_bytes() as u64;
+    let header = header_bytes(log.start()) as u64;
     let found = header.wrapping_add(frames).wrapping_add(torn as u64);
     found == bytes as u64
         && log.get(log.base()).is_none()

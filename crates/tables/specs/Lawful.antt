@@ -1,10 +1,10 @@
 -- What the tables of a lawful log are (own).
 use Rattle.std.specs.Prelude.{◌≡◌, ℕ, All, Option, Some, None, if◌then◌else◌}
 use Rattle.page.specs.Store.{StoreContent}
-use Rattle.wal.specs.Records.{TableEntry, History, LogContent, history}
-use Rattle.wal.specs.Meaning.{is_unfinished}
-use Rattle.wal.specs.Checkpoint.{true_entry, true_table}
-use Rattle.wal.specs.Theorems.{ReachesAll}
+use Rattle.log_laws.specs.Records.{TableEntry, History, LogContent, history}
+use Rattle.log_laws.specs.Meaning.{is_unfinished}
+use Rattle.log_laws.specs.Checkpoint.{true_entry, true_table}
+use Rattle.log_laws.specs.Theorems.{ReachesAll}
 use Rattle.tables.specs.Tables.{TablesContent}
 
 -- an unfinished transaction has an entry with what is true of it over the whole log, and no other transaction has one

@@ -1,7 +1,7 @@
 -- The tables of a crash as contracts see them. ARIES, section 4.3 (transaction table) and 4.4 (dirty page table).
 use Rattle.std.specs.Prelude.{ℕ, List}
-use Rattle.wal.specs.Records.{TableEntry}
-use Rattle.wal.specs.Undo.{lost_in}
+use Rattle.log_laws.specs.Records.{TableEntry}
+use Rattle.log_laws.specs.Undo.{lost_in}
 
 -- the unfinished transactions, the dirty pages with their RecLSNs, and where redo begins
 pub record TablesContent : Type 0 where

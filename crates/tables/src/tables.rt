@@ -1,7 +1,7 @@
 //! The transaction table and the dirty page table of a crash.
 
 ghost use Rattle.std.specs.Prelude.{◌≡◌};
-ghost use Rattle.wal.specs.Redo.{rec_lsn_of};
+ghost use Rattle.log_laws.specs.Redo.{rec_lsn_of};
 
 use std::collections::BTreeMap;
 use std::marker::Model;

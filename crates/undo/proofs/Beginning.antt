@@ -5,12 +5,12 @@ use Rattle.std.proofs.lemmas.Bool.{cases_Bool, cases_eq, cond_both, ltb-true, lt
 use Rattle.std.proofs.lemmas.List.Elements.{All-nil, All-cons}
 use Rattle.page.specs.declared.fault.Fault.{Fault}
 use Rattle.page.specs.declared.fault.Fault.TheVariants.{NoResource, BrokenChain}
-use Rattle.wal.specs.Records.{TableEntry, tx_in, LogRecord, Update, End, History, last_lsn, record_at, first}
-use Rattle.wal.specs.Hops.{hops}
-use Rattle.wal.specs.Tail.{Action, Finish, tx_for, record_for, records_for, is_among, is_empty}
-use Rattle.wal.specs.Store.{NamesPages}
-use Rattle.wal.specs.Undo.{entry_for, walk_of, last_in}
-use Rattle.wal.proofs.Actions.{AllFor}
+use Rattle.log_laws.specs.Records.{TableEntry, tx_in, LogRecord, Update, End, History, last_lsn, record_at, first}
+use Rattle.log_laws.specs.Hops.{hops}
+use Rattle.log_laws.specs.Tail.{Action, Finish, tx_for, record_for, records_for, is_among, is_empty}
+use Rattle.log_laws.specs.Store.{NamesPages}
+use Rattle.log_laws.specs.Undo.{entry_for, walk_of, last_in}
+use Rattle.log_laws.proofs.Actions.{AllFor}
 use Rattle.undo.specs.declared.losers.Loser.{Loser}
 use Rattle.undo.specs.Undone.{EndsBadly, last_met, lowest, UndoFault}
 use Rattle.undo.specs.Turns.{Waiting}
@@ -18,9 +18,8 @@ use Rattle.undo.specs.Rollback.{AreOthers, walk_from, WalkFault, Ends, Stays, Re
 use Rattle.undo.proofs.Begun.{met_by, last_by, meets_nothing, end_of, AreEnds, Begun}
 use Rattle.undo.proofs.Lowest.{lowest_most}
 use Rattle.undo.proofs.Rolling.{update_within, last_within}
-use Rattle.wal.proofs.Histories.{first_all}
+use Rattle.log_laws.proofs.Histories.{first_all, record_within}
 use Rattle.wal.proofs.Entries.{AreDistinct, Rise, entry_own, none_for}
-use Rattle.wal.proofs.Histories.{record_within}
 
 -- WHAT IS WRITTEN OF TWO LISTS
 after : (ℕ → ℕ) → ℕ → List Action → ℕ → ℕ

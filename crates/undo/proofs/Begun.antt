@@ -1,9 +1,9 @@
 -- A rollback at its start: what is appended, and which losers wait, after the losers so far have been resolved.
 use Rattle.std.specs.Prelude.{◌≡◌, ℕ, ◌⊎◌, List, [], ◌∷◌, map, filter, Some, Bool, true, ⊤}
-use Rattle.wal.specs.Records.{TableEntry, tx_in, LogRecord, End, History}
-use Rattle.wal.specs.Hops.{hops}
-use Rattle.wal.specs.Tail.{is_empty, is_among}
-use Rattle.wal.specs.Undo.{entry_for, walk_of, last_in}
+use Rattle.log_laws.specs.Records.{TableEntry, tx_in, LogRecord, End, History}
+use Rattle.log_laws.specs.Hops.{hops}
+use Rattle.log_laws.specs.Tail.{is_empty, is_among}
+use Rattle.log_laws.specs.Undo.{entry_for, walk_of, last_in}
 use Rattle.undo.specs.declared.losers.Loser.{Loser}
 use Rattle.undo.specs.Turns.{Waiting}
 use Rattle.undo.specs.Rollback.{Waits, IsDone, IsWaiting}

@@ -11,9 +11,9 @@ use Rattle.std.proofs.lemmas.List.{get_or_append_left}
 use Rattle.std.proofs.Math.Seq.{get_or-append_seam}
 use Rattle.wal.specs.Reading.{◌>>=◌}
 use Rattle.std.proofs.lemmas.List.FromFn.{get_or-map-range_with_len, length-map-range_with_len}
-use Rattle.wal.specs.Records.{LogRecord, CheckpointBegin, history, last_lsn, base_lsn, record_at}
+use Rattle.log_laws.specs.Records.{LogRecord, CheckpointBegin, history, last_lsn, base_lsn, record_at}
 use Rattle.wal.proofs.Entries.{is_eq-nat_cmp}
-use Rattle.wal.proofs.Histories.{record_item, record_none, size_of_log, base_of_log}
+use Rattle.log_laws.proofs.Histories.{record_item, record_none, size_of_log, base_of_log}
 use Rattle.undo.specs.Gathered.{link_in, place_of, kept_at, gathered_log, IsPassedOver}
 
 -- a place, as the map finds it

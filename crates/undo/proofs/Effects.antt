@@ -1,8 +1,8 @@
 -- What a record does to cells and pages, in one word.
 use Rattle.std.proofs.Common.{ℕ, ◌≡◌, false, ◌&&◌, eqb}
 use Rattle.page.specs.Image.{Image}
-use Rattle.wal.specs.Records.{LogRecord}
-use Rattle.wal.specs.Meaning.{writes, is_on, image_of}
+use Rattle.log_laws.specs.Records.{LogRecord}
+use Rattle.log_laws.specs.Meaning.{writes, is_on, image_of}
 
 -- a record puts an image into a cell
 pub record Puts (r : LogRecord) (page slot : ℕ) (image : Image) : Type 0 where

@@ -4,7 +4,7 @@ use Rattle.std.specs.Prelude.{All, filter}
 use Rattle.std.specs.Map.{lookup}
 use Rattle.std.proofs.lemmas.Bool.{cases_Bool}
 use Rattle.std.proofs.lemmas.List.{length-append}
-use Rattle.wal.specs.Records.{TableEntry, tx_in, LogRecord, End, History, last_lsn}
+use Rattle.log_laws.specs.Records.{TableEntry, tx_in, LogRecord, End, History, last_lsn}
 use Rattle.wal.proofs.Entries.{Rise}
 use Rattle.undo.specs.declared.losers.Loser.{Loser}
 use Rattle.undo.specs.Turns.{Waiting}

@@ -5,9 +5,9 @@ use Rattle.std.proofs.lemmas.Bool.{cases_eq, cases_lt}
 use Rattle.std.proofs.lemmas.Option.{same_Some}
 use Rattle.std.proofs.lemmas.List.Sorted.{Contains-permutation}
 use Rattle.std.proofs.lemmas.List.Elements.{All-push, All-tail}
-use Rattle.wal.specs.Records.{TableEntry, LogRecord, Update, Compensation, History, base_lsn, last_lsn, record_at}
-use Rattle.wal.specs.Undo.{entry_for}
-use Rattle.wal.proofs.Histories.{record_none}
+use Rattle.log_laws.specs.Records.{TableEntry, LogRecord, Update, Compensation, History, base_lsn, last_lsn, record_at}
+use Rattle.log_laws.specs.Undo.{entry_for}
+use Rattle.log_laws.proofs.Histories.{record_none}
 use Rattle.wal.proofs.Entries.{entry_own}
 use Rattle.undo.specs.declared.want.Want.{Want}
 use Rattle.undo.specs.Rollback.{hop_of}

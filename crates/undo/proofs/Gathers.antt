@@ -5,8 +5,8 @@ use Rattle.std.proofs.lemmas.Bool.{cases_Bool, cases_eq}
 use Rattle.std.proofs.lemmas.Option.{same_Some}
 use Rattle.std.proofs.lemmas.List.Sorted.{Contains-permutation, All-permutation}
 use Rattle.std.proofs.lemmas.List.Elements.{All-cons, All-contains}
-use Rattle.wal.specs.Records.{TableEntry, LogRecord, Update, Compensation, History, base_lsn, last_lsn, record_at}
-use Rattle.wal.proofs.Histories.{record_none}
+use Rattle.log_laws.specs.Records.{TableEntry, LogRecord, Update, Compensation, History, base_lsn, last_lsn, record_at}
+use Rattle.log_laws.proofs.Histories.{record_none}
 use Rattle.undo.specs.declared.want.Want.{Want}
 use Rattle.undo.specs.declared.walk.Hop.TheVariants as hop
 use Rattle.undo.specs.Rollback.{hop_of}

@@ -3,11 +3,11 @@ use Rattle.std.proofs.Common.{◌≡◌, ◌<◌, List, length, refl, sym, ap, �
 use Rattle.page.specs.declared.fault.Fault.{Fault}
 use Rattle.page.specs.declared.fault.Fault.TheVariants.{NoResource, NoSuchPage, BrokenChain}
 use Rattle.page.specs.declared.page.Page.{Page}
-use Rattle.wal.specs.Records.{Update, history, LogContent}
-use Rattle.wal.specs.Tail.{tail_of}
-use Rattle.wal.specs.Undo.{entry_for, walk_of, lost_in, undone_by}
-use Rattle.wal.specs.Theorems.{UndoesAll}
-use Rattle.wal.proofs.Undone.{undo_is_tail}
+use Rattle.log_laws.specs.Records.{Update, history, LogContent}
+use Rattle.log_laws.specs.Tail.{tail_of}
+use Rattle.log_laws.specs.Undo.{entry_for, walk_of, lost_in, undone_by}
+use Rattle.log_laws.specs.Theorems.{UndoesAll}
+use Rattle.log_laws.proofs.Undone.{undo_is_tail}
 use Rattle.tables.specs.Tables.{TablesContent, losers_in}
 use Rattle.undo.specs.Undone.{UndoFault, IsLawfulCrash}
 

@@ -6,8 +6,8 @@ use Rattle.std.proofs.lemmas.List.{map_push}
 use Rattle.std.specs.Map.Iter.{deref_pair}
 use Rattle.wal.specs.declared.record.Entry.{Entry}
 use Rattle.wal.specs.Content.{entry_of}
-use Rattle.wal.specs.Records.{TableEntry}
-use Rattle.wal.specs.Undo.{entry_for, is_lost, lost_in}
+use Rattle.log_laws.specs.Records.{TableEntry}
+use Rattle.log_laws.specs.Undo.{entry_for, is_lost, lost_in}
 use Rattle.wal.proofs.Entries.{Rise}
 
 -- one more entry

@@ -1,7 +1,7 @@
 -- The lowest of some LSNs.
 use Rattle.std.proofs.Common.{ℕ, ◌≡◌, ◌≤◌, true, List, [], ◌∷◌, inl, inr, arith, eq-eqb, eqb-true, eqb, refl}
 use Rattle.std.proofs.lemmas.Bool.{false≢true, or_cases, or_left, or_right}
-use Rattle.wal.specs.Tail.{is_among}
+use Rattle.log_laws.specs.Tail.{is_among}
 use Rattle.undo.specs.Undone.{lowest}
 
 pub lowest_among : (behind n : ℕ) (ns : List ℕ) → is_among n ns ≡ true → lowest behind ns ≤ n

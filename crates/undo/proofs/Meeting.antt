@@ -2,13 +2,12 @@
 use Rattle.std.proofs.Common.{ℕ, suc, ◌≡◌, ◌-◌, ◌<◌, true, false, cond, ◌||◌, Option, Some, None, sym, ap, ◌∙◌, inl, inr, arith, eqb-true, eqb, ltb, [], subst}
 use Rattle.std.specs.Prelude.{option_map, unwrap_or}
 use Rattle.std.proofs.lemmas.Bool.{cases_Bool, false≢true, or_cases, cases_lt}
-use Rattle.wal.specs.Records.{LogRecord, Update, History, start, ◌▸◌, last_lsn, record_at, first, base_lsn}
-use Rattle.wal.specs.Hops.{sent_on, hops}
-use Rattle.wal.specs.Tail.{is_among}
-use Rattle.wal.proofs.Histories.{record_last, record_more, first_base}
-use Rattle.wal.proofs.Stacks.{Falls, Falls-more, IsUpdateOf}
+use Rattle.log_laws.specs.Records.{LogRecord, Update, History, start, ◌▸◌, last_lsn, record_at, first, base_lsn}
+use Rattle.log_laws.specs.Hops.{sent_on, hops}
+use Rattle.log_laws.specs.Tail.{is_among}
+use Rattle.log_laws.proofs.Histories.{record_last, record_more, first_base, size_of_first_le}
+use Rattle.log_laws.proofs.Stacks.{Falls, Falls-more, IsUpdateOf}
 use Rattle.undo.specs.Rollback.{walk_from}
-use Rattle.wal.proofs.Histories.{size_of_first_le}
 
 -- it descends
 met_falls : (t : ℕ) (log : History) (n : ℕ) → Falls (suc (last_lsn log)) (hops t log n).met

@@ -1,8 +1,8 @@
 -- Undo has at most one error, and none if it succeeds.
 use Rattle.std.proofs.Common.{◌≡◌, ◌<◌, ℕ, List, refl, sym, ap, ◌∙◌, inl, inr, arith}
 use Rattle.page.specs.declared.fault.Fault.TheVariants.{NoResource, NoSuchPage, BrokenChain}
-use Rattle.wal.specs.Records.{TableEntry, History}
-use Rattle.wal.specs.Undo.{entry_for, walk_of}
+use Rattle.log_laws.specs.Records.{TableEntry, History}
+use Rattle.log_laws.specs.Undo.{entry_for, walk_of}
 use Rattle.undo.specs.Undone.{EndsBadly, MeetsMissing, Breaks, OneUndoFault, NoFaultOfUndo}
 
 module _ (log : History) (losers : List TableEntry) (count : ℕ) where

@@ -3,7 +3,7 @@ use Rattle.std.proofs.Common.{ℕ, suc, ◌≡◌, ◌≢◌, ◌<◌, ◌≤◌
 use Rattle.std.proofs.lemmas.Bool.{cases_Bool, cases_eq}
 use Rattle.std.specs.Map.{lookup}
 use Rattle.std.specs.Prelude.{Option}
-use Rattle.wal.specs.Records.{TableEntry, LogRecord, LogContent, Update, History}
+use Rattle.log_laws.specs.Records.{TableEntry, LogRecord, LogContent, Update, History}
 use Rattle.undo.specs.declared.losers.Loser.{Loser}
 use Rattle.undo.specs.declared.losers.Rollback.{Rollback}
 use Rattle.undo.specs.Turns.{Waiting, Taken}

@@ -6,14 +6,14 @@ use Rattle.std.proofs.lemmas.Bool.{cases_eq, false≢true, or_cases, or_left, or
 use Rattle.page.specs.declared.page.Page.{Page}
 use Rattle.page.specs.declared.fault.Fault.{Fault}
 use Rattle.page.specs.declared.fault.Fault.TheVariants.{NoResource, NoSuchPage, BrokenChain}
-use Rattle.wal.specs.Records.{TableEntry, UpdateRecord, PlainRecord, LogRecord, Update, Compensation, End, History, last_lsn, record_at, base_lsn}
-use Rattle.wal.specs.Tail.{Action, Finish, Undo, tx_for, record_for, records_for, undo_of, updates_where, is_stacked, is_among, is_empty}
-use Rattle.wal.specs.Store.{NamesPages}
-use Rattle.wal.specs.Undo.{entry_for, walk_of, undone_by}
-use Rattle.wal.proofs.Histories.{record_within, record_above}
-use Rattle.wal.proofs.Stacks.{Falls, Falls-more, Falls-among, IsUpdateOf}
-use Rattle.wal.proofs.Filters.{leading, no_update}
-use Rattle.wal.proofs.Rollback.{AreStacks, on_top, taken_off}
+use Rattle.log_laws.specs.Records.{TableEntry, UpdateRecord, PlainRecord, LogRecord, Update, Compensation, End, History, last_lsn, record_at, base_lsn}
+use Rattle.log_laws.specs.Tail.{Action, Finish, Undo, tx_for, record_for, records_for, undo_of, updates_where, is_stacked, is_among, is_empty}
+use Rattle.log_laws.specs.Store.{NamesPages}
+use Rattle.log_laws.specs.Undo.{entry_for, walk_of, undone_by}
+use Rattle.log_laws.proofs.Histories.{record_within, record_above}
+use Rattle.log_laws.proofs.Stacks.{Falls, Falls-more, Falls-among, IsUpdateOf}
+use Rattle.log_laws.proofs.Filters.{leading, no_update}
+use Rattle.log_laws.proofs.Rollback.{AreStacks, on_top, taken_off}
 use Rattle.undo.specs.declared.losers.Loser.{Loser}
 use Rattle.undo.specs.Undone.{NoBadHop, undone_page, MetExist, EndsBadly, last_met, UndoFault}
 use Rattle.undo.specs.Turns.{Waiting, Taken}

@@ -4,8 +4,8 @@ use mathlib.Core.Path.{fun_ext}
 use Rattle.std.specs.Prelude.{⊤, All, ◌&&◌, filter, flat_map, option_map}
 use Rattle.std.specs.List.{range_with_len}
 use Rattle.page.specs.Image.{Image}
-use Rattle.wal.specs.Meaning.{effects, writes, is_on, image_of}
-use Rattle.wal.specs.Redo.{held_by, last_where}
+use Rattle.log_laws.specs.Meaning.{effects, writes, is_on, image_of}
+use Rattle.log_laws.specs.Redo.{held_by, last_where}
 use Rattle.undo.specs.Undone.{slots_of, undone_page}
 use Rattle.undo.proofs.UndonePages.{no_effects, no_last}
 use Rattle.undo.specs.Appended.{record_of}
@@ -15,11 +15,11 @@ use Rattle.std.proofs.lemmas.Option.{same_Some}
 use Rattle.page.specs.declared.page.Page.{Page}
 use Rattle.page.specs.declared.fault.Fault.{Fault}
 use Rattle.page.specs.declared.fault.Fault.TheVariants.{NoResource, NoSuchPage, BrokenChain}
-use Rattle.wal.specs.Records.{TableEntry, tx_in, UpdateRecord, LogRecord, LogContent, Update, Compensation, History, start, ◌▸◌, ◌▸▸◌, history, last_lsn, base_lsn, record_at, first}
-use Rattle.wal.specs.Hops.{Walk, hops, sent_on, meet}
-use Rattle.wal.specs.Tail.{is_among, updates_where, is_stacked, rollback, records_for, undo_of, Finish, is_empty}
-use Rattle.wal.specs.Undo.{entry_for, walk_of, undone_by, last_in}
-use Rattle.wal.proofs.Histories.{record_last, record_older, base_within, first_all}
+use Rattle.log_laws.specs.Records.{TableEntry, tx_in, UpdateRecord, LogRecord, LogContent, Update, Compensation, History, start, ◌▸◌, ◌▸▸◌, history, last_lsn, base_lsn, record_at, first}
+use Rattle.log_laws.specs.Hops.{Walk, hops, sent_on, meet}
+use Rattle.log_laws.specs.Tail.{is_among, updates_where, is_stacked, rollback, records_for, undo_of, Finish, is_empty}
+use Rattle.log_laws.specs.Undo.{entry_for, walk_of, undone_by, last_in}
+use Rattle.log_laws.proofs.Histories.{record_last, record_older, base_within, first_all}
 use Rattle.wal.proofs.Entries.{entry_own}
 use Rattle.undo.specs.declared.walk.Hop.{Hop}
 use Rattle.undo.specs.declared.walk.Hop.TheVariants as hop
@@ -31,7 +31,7 @@ use Rattle.undo.specs.declared.appended.Appended.TheVariants as brief
 use Rattle.undo.specs.Undone.{IsMet, MetExist, EndsBadly, last_met, lowest, UndoFault}
 use Rattle.tables.specs.Tables.{TablesContent, losers_in}
 use Rattle.wal.specs.Spelling.{Fits}
-use Rattle.wal.specs.Store.{NamesPages}
+use Rattle.log_laws.specs.Store.{NamesPages}
 use Rattle.undo.proofs.UndonePages.{map-same-at}
 use Rattle.undo.proofs.Walks.{walk_zero, walk_past, walk_stops, walk_goes_on, walk_meets, update_there}
 use Rattle.undo.proofs.Meeting.{walk_found}

@@ -3,7 +3,7 @@ use Rattle.std.proofs.Common.{◌≡◌, List, All, map, sym, subst, arith}
 use Rattle.std.proofs.lemmas.List.{get_or-map, length-map}
 use Rattle.std.proofs.lemmas.List.Elements.{All-map}
 use Rattle.wal.specs.declared.record.Record.{Record}
-use Rattle.wal.specs.Records.{LogContent, history}
+use Rattle.log_laws.specs.Records.{LogContent, history}
 use Rattle.wal.specs.Content.{content}
 use Rattle.wal.specs.Spelling.{Fits}
 use Rattle.undo.specs.declared.appended.Appended.{Appended}

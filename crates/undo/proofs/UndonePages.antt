@@ -8,10 +8,10 @@ use Rattle.std.specs.List.{range_with_len}
 use Rattle.page.specs.Image.{Image}
 use Rattle.page.specs.declared.page.Page.{Page}
 use Rattle.page.specs.Store.{AreNumbered}
-use Rattle.wal.specs.Records.{LogRecord, End, PlainRecord, History, start, ◌▸◌, ◌▸▸◌, last_lsn}
-use Rattle.wal.specs.Meaning.{Cells, effects, writes, is_on, image_of}
-use Rattle.wal.specs.Redo.{held_by, last_where}
-use Rattle.wal.proofs.Histories.{after-append, size-after}
+use Rattle.log_laws.specs.Records.{LogRecord, End, PlainRecord, History, start, ◌▸◌, ◌▸▸◌, last_lsn}
+use Rattle.log_laws.specs.Meaning.{Cells, effects, writes, is_on, image_of}
+use Rattle.log_laws.specs.Redo.{held_by, last_where}
+use Rattle.log_laws.proofs.Histories.{after-append, size-after}
 use Rattle.undo.specs.Undone.{slots_of, undone_page}
 use Rattle.undo.proofs.Begun.{AreEnds}
 use Rattle.undo.proofs.Effects.{Puts, Idle}

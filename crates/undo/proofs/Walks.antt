@@ -2,10 +2,10 @@
 use Rattle.std.proofs.Common.{ℕ, suc, ◌≡◌, ◌+◌, ◌-◌, ◌<◌, ◌≤◌, true, cond, [], Option, Some, None, refl, sym, ap, ap₂, ◌∙◌, inl, inr, arith, eq-eqb, eqb-true, ne_eqb, eqb}
 use Rattle.std.specs.Prelude.{option_map, unwrap_or}
 use Rattle.std.proofs.lemmas.Bool.{cases_Bool, cases_eq, cases_lt}
-use Rattle.wal.specs.Records.{LogRecord, Update, History, start, ◌▸◌, last_lsn, record_at, first, base_lsn}
-use Rattle.wal.specs.Hops.{Walk, sent_on, hops, meet}
-use Rattle.wal.proofs.Walks.{hops_other}
-use Rattle.wal.proofs.Histories.{first_older, first_all, size_of_first_le, first_base}
+use Rattle.log_laws.specs.Records.{LogRecord, Update, History, start, ◌▸◌, last_lsn, record_at, first, base_lsn}
+use Rattle.log_laws.specs.Hops.{Walk, sent_on, hops, meet}
+use Rattle.log_laws.proofs.Walks.{hops_other}
+use Rattle.log_laws.proofs.Histories.{first_older, first_all, size_of_first_le, first_base}
 use Rattle.undo.specs.declared.walk.Hop.TheVariants as hop
 use Rattle.undo.specs.Rollback.{hop_of, walk_from, IsUpdateAt, Meets}
 

@@ -2,11 +2,11 @@
 use Rattle.std.specs.Prelude.{◌≡◌, ℕ, List, All, Option, Some, Vec, map, ⊤}
 use Rattle.std.specs.declared.alloc.Global.{Global}
 use Rattle.page.specs.declared.page.Page.{Page}
-use Rattle.wal.specs.Records.{LogRecord, LogContent, Update, End, CheckpointBegin, History, history, record_at}
-use Rattle.wal.specs.Tail.{Undo, record_for, tail_of}
+use Rattle.log_laws.specs.Records.{LogRecord, LogContent, Update, End, CheckpointBegin, History, history, record_at}
+use Rattle.log_laws.specs.Tail.{Undo, record_for, tail_of}
 use Rattle.wal.specs.Spelling.{Fits}
-use Rattle.wal.specs.Store.{NamesPages}
-use Rattle.wal.specs.Undo.{undone_by}
+use Rattle.log_laws.specs.Store.{NamesPages}
+use Rattle.log_laws.specs.Undo.{undone_by}
 use Rattle.tables.specs.Tables.{TablesContent, losers_in}
 use Rattle.undo.specs.Undone.{NoBadHop, MetExist, RolledBack, HasNoTransaction0}
 use Rattle.undo.specs.declared.appended.Appended.{Appended}

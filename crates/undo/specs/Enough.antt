@@ -2,9 +2,9 @@
 use Rattle.std.specs.Prelude.{◌≡◌, ◌⊎◌, ℕ, ◌<◌, List, Option, Some, None, ◌==◌, if◌then◌else◌}
 use Rattle.page.specs.declared.page.Page.{Page}
 use Rattle.page.specs.declared.fault.Fault.{Fault}
-use Rattle.wal.specs.Records.{LogRecord, LogContent, Update, History, TableEntry, history, base_lsn, last_lsn, record_at}
-use Rattle.wal.specs.Hops.{sent_on}
-use Rattle.wal.specs.Undo.{entry_for}
+use Rattle.log_laws.specs.Records.{LogRecord, LogContent, Update, History, TableEntry, history, base_lsn, last_lsn, record_at}
+use Rattle.log_laws.specs.Hops.{sent_on}
+use Rattle.log_laws.specs.Undo.{entry_for}
 use Rattle.tables.specs.Tables.{TablesContent, losers_in}
 use Rattle.undo.specs.Rollback.{hop_of}
 use Rattle.undo.specs.Undone.{UndoFault}

@@ -3,8 +3,8 @@ use Rattle.std.specs.Prelude.{◌≡◌, ⊤, ℕ, suc, ◌+◌, ◌*◌, ◌<�
 use Rattle.std.specs.List.{range_with_len, slice_get}
 use Rattle.std.specs.Map.{lookup}
 use Rattle.wal.specs.Reading.{◌>>=◌}
-use Rattle.wal.specs.declared.header.LogStart.TheVariants.{Version2}
-use Rattle.wal.specs.Records.{LogRecord, LogContent, History, Update, Compensation, CheckpointBegin, history, base_lsn, last_lsn, record_at}
+use Rattle.log_laws.specs.declared.start.LogStart.TheVariants.{Version2}
+use Rattle.log_laws.specs.Records.{LogRecord, LogContent, History, Update, Compensation, CheckpointBegin, history, base_lsn, last_lsn, record_at}
 use Rattle.wal.specs.Spelling.{Fits}
 use Rattle.wal.specs.declared.sizes.TheConstants.{HEADER_BYTES, LARGEST_BASE, SMALLEST_FRAME}
 

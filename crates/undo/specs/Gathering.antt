@@ -1,7 +1,7 @@
 -- The records that undo looks at, while they are gathered: a log is read in pieces, from its end to its beginning (own).
 use Rattle.std.specs.Prelude.{◌≡◌, ◌⊎◌, ℕ, ◌+◌, ◌<◌, List, ◌∷◌, Contains, IsPermutation, Some}
-use Rattle.wal.specs.Records.{History, TableEntry, LogContent, history, base_lsn, last_lsn, record_at}
-use Rattle.wal.specs.Undo.{entry_for}
+use Rattle.log_laws.specs.Records.{History, TableEntry, LogContent, history, base_lsn, last_lsn, record_at}
+use Rattle.log_laws.specs.Undo.{entry_for}
 use Rattle.tables.specs.Pieces.{IsPieceOf}
 use Rattle.undo.specs.declared.want.Want.{Want}
 use Rattle.undo.specs.Enough.{IsFound, AreGathered, sends}

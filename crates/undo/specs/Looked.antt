@@ -1,5 +1,5 @@
 -- A log that undo looks at (own).
-use Rattle.wal.specs.Records.{LogContent}
+use Rattle.log_laws.specs.Records.{LogContent}
 use Rattle.undo.specs.declared.looked.Place.{Place}
 use Rattle.undo.specs.declared.looked.Place.TheVariants.{Log, Gathered}
 

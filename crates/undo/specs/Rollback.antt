@@ -6,11 +6,11 @@ use Rattle.page.specs.Store.{AreNumbered}
 use Rattle.changes.specs.declared.pages.Pages.{Ghosts as Pages}
 use Rattle.page.specs.declared.fault.Fault.{Fault}
 use Rattle.page.specs.declared.fault.Fault.TheVariants.{NoResource, NoSuchPage, BrokenChain}
-use Rattle.wal.specs.Records.{TableEntry, UpdateRecord, LogRecord, LogContent, Update, End, History, history, last_lsn, record_at, first}
-use Rattle.wal.specs.Hops.{Walk, sent_on, hops, meet}
-use Rattle.wal.specs.Tail.{Action, Undo, record_for, records_for, is_among, is_stacked, updates_where, undo_of}
-use Rattle.wal.specs.Store.{NamesPages}
-use Rattle.wal.specs.Undo.{entry_for, walk_of, undone_by}
+use Rattle.log_laws.specs.Records.{TableEntry, UpdateRecord, LogRecord, LogContent, Update, End, History, history, last_lsn, record_at, first}
+use Rattle.log_laws.specs.Hops.{Walk, sent_on, hops, meet}
+use Rattle.log_laws.specs.Tail.{Action, Undo, record_for, records_for, is_among, is_stacked, updates_where, undo_of}
+use Rattle.log_laws.specs.Store.{NamesPages}
+use Rattle.log_laws.specs.Undo.{entry_for, walk_of, undone_by}
 use Rattle.tables.specs.Tables.{TablesContent, losers_in}
 use Rattle.undo.specs.Undone.{undone_page, UndoFault, HasNoTransaction0}
 use Rattle.undo.specs.Appended.{full_records, HaveUpdates, AreFit, RolledBackOn}

@@ -8,12 +8,12 @@ use Rattle.page.specs.declared.fault.Fault.{Fault}
 use Rattle.page.specs.Store.{StoreContent}
 use Rattle.page.specs.Causes.{HasOneCause, HasNoCause}
 use Rattle.page.specs.declared.fault.Fault.TheVariants.{NoResource, NoSuchPage, BrokenChain}
-use Rattle.wal.specs.Records.{TableEntry, UpdateRecord, LogRecord, LogContent, Update, History, history, last_lsn, record_at, ◌▸▸◌}
-use Rattle.wal.specs.Meaning.{BasePages, Cells, effects}
-use Rattle.wal.specs.Tail.{is_among, tail_of}
-use Rattle.wal.specs.Redo.{held_by, last_where}
-use Rattle.wal.specs.Store.{NamesPages, Lawful}
-use Rattle.wal.specs.Undo.{entry_for, walk_of, undone_by}
+use Rattle.log_laws.specs.Records.{TableEntry, UpdateRecord, LogRecord, LogContent, Update, History, history, last_lsn, record_at, ◌▸▸◌}
+use Rattle.log_laws.specs.Meaning.{BasePages, Cells, effects}
+use Rattle.log_laws.specs.Tail.{is_among, tail_of}
+use Rattle.log_laws.specs.Redo.{held_by, last_where}
+use Rattle.log_laws.specs.Store.{NamesPages, Lawful}
+use Rattle.log_laws.specs.Undo.{entry_for, walk_of, undone_by}
 use Rattle.wal.specs.declared.record.Record.{Record}
 use Rattle.wal.specs.Spelling.{Fits}
 use Rattle.wal.specs.Content.{content}

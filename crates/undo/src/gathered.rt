@@ -3,7 +3,7 @@
 ghost use Rattle.std.specs.Prelude.{◌≡◌, ◌+◌, ◌*◌, ◌-◌, ◌<◌, ◌≤◌, ◌^◌, length, option_map, ℕ, Some, None, OnOk, IfSome, IsOkUnless, IsTrue, ◌↔◌};
 ghost use Rattle.page.specs.declared.fault.Fault.TheVariants.{NoResource};
 ghost use Rattle.wal.specs.Content.{content, shown};
-ghost use Rattle.wal.specs.Records.{history, record_at, last_lsn, base_lsn};
+ghost use Rattle.log_laws.specs.Records.{history, record_at, last_lsn, base_lsn};
 ghost use Rattle.wal.specs.Spelling.{Fits};
 ghost use Rattle.wal.specs.declared.sizes.TheConstants.{HEADER_BYTES, LARGEST_BASE, SMALLEST_FRAME};
 ghost use Rattle.undo.specs.Gathered.{link_in, IsPassedOver, HasLsn, KeepsLink};
@@ -84,7 +84,7 @@ pub struct Gathered {
 impl Model for Gathered {
     ghost use Rattle.std.specs.Prelude.{map};
     ghost use Rattle.wal.specs.Content.{content};
-    ghost use Rattle.wal.specs.Records.{LogContent};
+    ghost use Rattle.log_laws.specs.Records.{LogContent};
     ghost use Rattle.undo.specs.Gathered.{gathered_log, IsGathered};
 
     ghost Value = { LogContent };

@@ -2,7 +2,7 @@
 
 ghost use Rattle.std.specs.Prelude.{◌≡◌, ◌+◌, ◌*◌, ◌<◌, ◌≤◌, ◌^◌, length, option_map, IfSome};
 ghost use Rattle.wal.specs.Content.{shown};
-ghost use Rattle.wal.specs.Records.{history, record_at, last_lsn, base_lsn};
+ghost use Rattle.log_laws.specs.Records.{history, record_at, last_lsn, base_lsn};
 ghost use Rattle.wal.specs.Spelling.{Fits};
 ghost use Rattle.wal.specs.declared.sizes.TheConstants.{HEADER_BYTES, LARGEST_BASE, SMALLEST_FRAME};
 
@@ -27,7 +27,7 @@ pub struct Looked<'a> {
 }
 
 impl<'a> Model for Looked<'a> {
-    ghost use Rattle.wal.specs.Records.{LogContent};
+    ghost use Rattle.log_laws.specs.Records.{LogContent};
     ghost use Rattle.undo.specs.Looked.{looked_at};
 
     ghost Value = { LogContent };

@@ -1,9 +1,9 @@
 //! The losers of a rollback, each at the update that it undoes next.
 
 ghost use Rattle.std.specs.Prelude.{◌≡◌, ◌≤◌, ◌<◌, ◌+◌, ◌^◌, ℕ, length, OnOk, IfOk, IfErr};
-ghost use Rattle.wal.specs.Records.{history, last_lsn};
+ghost use Rattle.log_laws.specs.Records.{history, last_lsn};
 ghost use Rattle.wal.specs.Content.{entry_of};
-ghost use Rattle.wal.specs.Undo.{is_lost};
+ghost use Rattle.log_laws.specs.Undo.{is_lost};
 ghost use Rattle.tables.specs.Tables.{losers_in};
 ghost use Rattle.undo.specs.Rollback.{walk_from, WalkFault, loser_at, AreUpdates, AreOthers, Resolves, BeginsRollback, ChangesNoPage, StopsBeginning};
 

@@ -3,7 +3,7 @@
 ghost use Rattle.std.specs.Prelude.{◌≡◌, ◌≤◌, ◌<◌, ◌+◌, ◌*◌, ◌^◌, length, OnOk, IfOk, IfErr, IsOkUnless, vec_len};
 ghost use Rattle.page.specs.declared.fault.Fault.TheVariants.{NoResource};
 ghost use Rattle.page.specs.Store.{AreNumbered};
-ghost use Rattle.wal.specs.Records.{history, record_at, last_lsn};
+ghost use Rattle.log_laws.specs.Records.{history, record_at, last_lsn};
 ghost use Rattle.tables.specs.Tables.{losers_in};
 ghost use Rattle.undo.specs.Undone.{UndoesLosers, AppendsTail, most_appended, IsLawfulCrash, RollbackFault, HasNoTransaction0, AreWritable};
 ghost use Rattle.undo.specs.Appended.{IsUpdate, HaveUpdates, AreFit, UndoesInBrief, HasTailInBrief, UndoesOn};

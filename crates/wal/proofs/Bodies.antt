@@ -3,7 +3,7 @@ use Rattle.std.proofs.Common.{◌-◌, ◌≡◌, ℕ, ◌^◌, ◌<◌, ◌≤�
 use Rattle.std.specs.Int.{w32, w64, to_be_bytes}
 use Rattle.std.proofs.lemmas.List.{append-nil, nil_from_length}
 use Rattle.std.proofs.lemmas.Option.{same_Some}
-use Rattle.wal.specs.Records.{tx_in, page_in, UpdateRecord, CompensationRecord, PlainRecord, LogRecord, Update, Compensation, Commit, Abort, End, Prepare, CheckpointBegin, CheckpointEnd}
+use Rattle.log_laws.specs.Records.{tx_in, page_in, UpdateRecord, CompensationRecord, PlainRecord, LogRecord, Update, Compensation, Commit, Abort, End, Prepare, CheckpointBegin, CheckpointEnd}
 use Rattle.wal.specs.Spelling.{image, plain, update, compensation, checkpoint, table, entry, dirty_page, kind_of, fields, body, FitsPlain, FitsTable, FitsEntry, FitsDirty, Fits}
 use Rattle.wal.specs.Reading.{◌>>=◌, number_at, slot_at, image_at, plain_at, update_at, compensation_at, plain_record_at, transactions_at, dirties_at, checkpoint_at, fields_at, body_at}
 use Rattle.wal.proofs.Loop.{chosen}

@@ -1,17 +1,17 @@
 -- What each law of records is for: a log that keeps only the others, and fails.
 use Rattle.std.proofs.Common.{ℕ, ◌≡◌, ◌≢◌, ◌&&◌, ◌||◌, true, false, List, [], ◌∷◌, Option, Some, None, inl, inr, refl, sym, ◌∙◌, ap, eqb, ne_eqb, length, arith, get_or}
 use Rattle.std.proofs.lemmas.Bool.{false≢true, or_from, and_right}
-use Rattle.wal.specs.Records.{LogRecord, CheckpointBegin, CheckpointEnd, History, start, ◌▸◌, LogContent, history}
-use Rattle.wal.specs.Meaning.{no_base, touches, replay, winners, pending, undo_next_of}
-use Rattle.wal.specs.Laws.{ChainLaw, FinishLaw, CompensationLaw, BeforeLaw, Strictness, Obeys}
-use Rattle.wal.specs.Tail.{with_tail}
-use Rattle.wal.specs.Hops.{hops}
-use Rattle.wal.specs.Redo.{redo_of}
-use Rattle.wal.specs.Undo.{lost_in, doubtful_in, undone_by}
-use Rattle.wal.specs.Pages.{PageLaw}
-use Rattle.wal.specs.Checkpoint.{DirtyLaw, true_table}
-use Rattle.wal.specs.Store.{store_out}
-use Rattle.wal.specs.Theorems.{replayed_page}
+use Rattle.log_laws.specs.Records.{LogRecord, CheckpointBegin, CheckpointEnd, History, start, ◌▸◌, LogContent, history}
+use Rattle.log_laws.specs.Meaning.{no_base, touches, replay, winners, pending, undo_next_of}
+use Rattle.log_laws.specs.Laws.{ChainLaw, FinishLaw, CompensationLaw, BeforeLaw, Strictness, Obeys}
+use Rattle.log_laws.specs.Tail.{with_tail}
+use Rattle.log_laws.specs.Hops.{hops}
+use Rattle.log_laws.specs.Redo.{redo_of}
+use Rattle.log_laws.specs.Undo.{lost_in, doubtful_in, undone_by}
+use Rattle.log_laws.specs.Pages.{PageLaw}
+use Rattle.log_laws.specs.Checkpoint.{DirtyLaw, true_table}
+use Rattle.log_laws.specs.Store.{store_out}
+use Rattle.log_laws.specs.Theorems.{replayed_page}
 use Rattle.wal.proofs.Rows.{L, a, b, c, U, C, K, A, E, holding, store_of, active}
 use Rattle.wal.proofs.PreparedRows.{P, prepared}
 

@@ -5,23 +5,23 @@ use Rattle.std.specs.List.{AllByRecursion}
 use Rattle.std.proofs.lemmas.List.{append_cancel_left, length-take}
 use Rattle.page.specs.declared.fault.Fault.{Fault}
 use Rattle.page.specs.Store.{StoreContent, AreNumbered}
-use Rattle.wal.specs.Meaning.{BasePages}
-use Rattle.wal.specs.Records.{LogRecord, lsn_before, LogContent, history, ◌⧺◌, up_to, last_lsn}
-use Rattle.wal.specs.Tail.{tail_of, with_tail}
+use Rattle.log_laws.specs.Meaning.{BasePages}
+use Rattle.log_laws.specs.Records.{LogRecord, lsn_before, LogContent, history, ◌⧺◌, up_to, last_lsn}
+use Rattle.log_laws.specs.Tail.{tail_of, with_tail}
 use Rattle.wal.specs.Spelling.{body, frame, Fits}
 use Rattle.wal.specs.Headers.{header_of, FitsStart}
 use Rattle.wal.specs.Frames.{next_at}
 use Rattle.wal.specs.Reads.{spellings, log_text, IsTorn}
-use Rattle.wal.specs.Pages.{PageLaw}
-use Rattle.wal.specs.Store.{Lawful}
-use Rattle.wal.specs.Cut.{Cut}
-use Rattle.wal.specs.Theorems.{Interrupted, GoesOn, CutsSettle, CutsCompose}
-use Rattle.wal.proofs.Histories.{size_of_log}
+use Rattle.log_laws.specs.Pages.{PageLaw}
+use Rattle.log_laws.specs.Store.{Lawful}
+use Rattle.wal.specs.Cut.{Cut, CutsSettle, CutsCompose}
+use Rattle.log_laws.specs.Theorems.{Interrupted, GoesOn}
+use Rattle.log_laws.proofs.Histories.{size_of_log}
 use Rattle.wal.proofs.Headers.{one_start}
-use Rattle.wal.proofs.Lists.{take-append-ge, up_to_in_tail}
+use Rattle.log_laws.proofs.Lists.{take-append-ge, up_to_in_tail}
 use Rattle.wal.proofs.Whole.{frame_next, torn_none}
-use Rattle.wal.proofs.Appended.{tail_fits}
-use Rattle.wal.proofs.Settled.{restart_goes_on}
+use Rattle.wal.proofs.TailFits.{tail_fits}
+use Rattle.log_laws.proofs.Settled.{restart_goes_on}
 
 -- what is read at the front
 abbrev Front : Type 0

@@ -9,11 +9,11 @@ use Rattle.std.proofs.lemmas.Map.Keys.{sorted_tail, below_from_sorted}
 use Rattle.std.proofs.lemmas.Bool.{cases_Bool, cases_eq, cond_both, or_from, ltb-true}
 use Rattle.wal.specs.declared.record.Entry.{Entry}
 use Rattle.wal.specs.Content.{entry_of}
-use Rattle.wal.specs.Records.{TableEntry, tx_in, History}
-use Rattle.wal.specs.Tail.{is_among, numbers_from, above_all}
-use Rattle.wal.specs.Meaning.{is_unfinished}
-use Rattle.wal.specs.Undo.{entry_for}
-use Rattle.wal.specs.Checkpoint.{true_entry, true_table}
+use Rattle.log_laws.specs.Records.{TableEntry, tx_in, History}
+use Rattle.log_laws.specs.Tail.{is_among, numbers_from, above_all}
+use Rattle.log_laws.specs.Meaning.{is_unfinished}
+use Rattle.log_laws.specs.Undo.{entry_for}
+use Rattle.log_laws.specs.Checkpoint.{true_entry, true_table}
 
 -- KEYS
 is_eq-cond : (b : Bool) → is_eq (cond b Equal Greater) ≡ b

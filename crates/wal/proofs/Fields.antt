@@ -7,7 +7,7 @@ use Rattle.std.proofs.lemmas.Nat.{be_bytes_4, be_bytes_8, from_be_bytes-to_be_by
 use Rattle.std.proofs.lemmas.Option.{same_Some}
 use Rattle.page.specs.Image.{Image, FitsSlot}
 use Rattle.page.proofs.BigEndian.{AreBytes, AreBytes-take, AreBytes-drop}
-use Rattle.wal.specs.Records.{PlainRecord}
+use Rattle.log_laws.specs.Records.{PlainRecord}
 use Rattle.wal.specs.Spelling.{image, plain, FitsPlain}
 use Rattle.wal.specs.Reading.{◌>>=◌, number_at, tx_at, slot_at, image_at, plain_at}
 use Rattle.wal.proofs.Loop.{chosen}

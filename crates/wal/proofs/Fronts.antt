@@ -1,14 +1,14 @@
 -- What the first bytes of a log determine, whatever follows them.
-use Rattle.std.proofs.Common.{◌≡◌, ◌≢◌, ◌⊎◌, ℕ, ◌+◌, ◌<◌, ◌≤◌, ◌^◌, List, [], ◌∷◌, ◌++◌, length, take, drop, map, Some, None, Ok, Err, refl, sym, ap, subst, ◌∙◌, append_assoc, arith, inl, inr, length-append}
+use Rattle.std.proofs.Common.{◌≡◌, ◌≢◌, ℕ, ◌+◌, ◌<◌, ◌≤◌, ◌^◌, List, ◌++◌, length, take, drop, map, Some, None, Err, sym, ap, subst, ◌∙◌, append_assoc, arith, inl, inr, length-append}
 use Rattle.std.specs.Int.{w32, from_be_bytes}
 use Rattle.std.proofs.lemmas.List.{drop-append-le, length-drop, length-map, take-append-drop, take-append-le, take_at}
 use Rattle.page.proofs.BigEndian.{AreBytes, AreBytes-drop}
 use Rattle.page.specs.declared.fault.Fault.{Fault}
 use Rattle.page.specs.declared.fault.Fault.TheVariants.{NoResource, BadLogHeader, BadLength, BadRecord, BadLsn}
-use Rattle.wal.specs.declared.header.LogStart.{LogStart}
-use Rattle.wal.specs.declared.header.LogStart.TheVariants.{Version1, Version2}
+use Rattle.log_laws.specs.declared.start.LogStart.{LogStart}
+use Rattle.log_laws.specs.declared.start.LogStart.TheVariants.{Version1, Version2}
 use Rattle.wal.specs.declared.stretch.Stretch.{Stretch}
-use Rattle.wal.specs.Records.{LogRecord, lsn_before}
+use Rattle.log_laws.specs.Records.{lsn_before}
 use Rattle.wal.specs.Headers.{header_of, header_bytes, FitsStart, start_at}
 use Rattle.wal.specs.Frames.{length_of, body_of, next_at, record_of, Fails}
 use Rattle.wal.specs.Reads.{spellings, IsWhole, HasFault, HasFaultBehind, Cause}

@@ -5,7 +5,7 @@ use Rattle.std.specs.Int.{w32, w64}
 use Rattle.std.proofs.lemmas.Option.{same_Some}
 use Rattle.wal.specs.declared.glance.Glance.{Glance}
 use Rattle.wal.specs.declared.glance.Glance.TheVariants as seen
-use Rattle.wal.specs.Records.{PlainRecord, LogRecord, Commit, Abort, End, Prepare, CheckpointBegin}
+use Rattle.log_laws.specs.Records.{PlainRecord, LogRecord, Commit, Abort, End, Prepare, CheckpointBegin}
 use Rattle.wal.specs.Reading.{◌>>=◌, number_at, slot_at, image_at, plain_at, transactions_at, dirties_at, update_at, compensation_at, plain_record_at, checkpoint_at, fields_at, body_at}
 use Rattle.wal.specs.Frames.{IsBody}
 use Rattle.wal.specs.Glances.{glance_of, update_glance, compensation_glance, plain_glance, fields_glance, body_glance}

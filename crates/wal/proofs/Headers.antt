@@ -8,10 +8,10 @@ use Rattle.std.proofs.lemmas.Bool.Decides.{Decides-eqb}
 use Rattle.std.proofs.lemmas.List.{drop_at, length-append}
 use Rattle.std.proofs.lemmas.Option.{same_Some}
 use Rattle.page.proofs.BigEndian.{AreBytes, AreBytes-drop}
-use Rattle.wal.specs.declared.header.LogStart.{LogStart}
-use Rattle.wal.specs.declared.header.LogStart.TheVariants.{Version1, Version2}
+use Rattle.log_laws.specs.declared.start.LogStart.{LogStart}
+use Rattle.log_laws.specs.declared.start.LogStart.TheVariants.{Version1, Version2}
 use Rattle.wal.specs.declared.sizes.TheConstants.{LARGEST_BASE, BASED_HEADER_BYTES}
-use Rattle.wal.specs.Records.{lsn_before}
+use Rattle.log_laws.specs.Records.{lsn_before}
 use Rattle.wal.specs.Headers.{header_of, header_bytes, FitsStart, start_at}
 use Rattle.wal.specs.Reading.{◌>>=◌, number_at}
 use Rattle.wal.proofs.Loop.{chosen}

@@ -3,8 +3,8 @@ use Rattle.std.proofs.Common.{◌≡◌, ℕ, false, eqb, List, length, ◌≤�
 use Rattle.std.specs.Prelude.{option_map, IfSome}
 use Rattle.page.specs.Image.{FitsSlot}
 use Rattle.page.specs.declared.profile.TheConstants.{VALUE_BYTES}
-use Rattle.wal.specs.Records.{LogRecord, Update, Compensation}
-use Rattle.wal.specs.Meaning.{image_of, image_in}
+use Rattle.log_laws.specs.Records.{LogRecord, Update, Compensation}
+use Rattle.log_laws.specs.Meaning.{image_of, image_in}
 use Rattle.wal.specs.Spelling.{Fits}
 use Rattle.wal.specs.Reading.{plain_record_at, checkpoint_at, fields_at}
 

@@ -1,16 +1,12 @@
 -- Reading frames one after the other, as a loop does.
-use Rattle.std.proofs.Common.{◌≡◌, ℕ, suc, ◌-◌, ◌+◌, ◌≤◌, ◌<◌, ◌⊎◌, inl, inr, Bool, true, false, ◌||◌, cond, eqb, ltb, List, [], ◌∷◌, ◌++◌, length, drop, Option, Some, None, Result, Ok, Err, refl, sym, ap, ap₂, subst, ◌∙◌, append_assoc, arith, eqb-true, map, length-append}
+use Rattle.std.proofs.Common.{◌≡◌, ℕ, suc, ◌-◌, ◌+◌, ◌≤◌, ◌<◌, ◌⊎◌, inl, inr, Bool, true, false, ◌||◌, cond, eqb, ltb, List, [], ◌++◌, length, drop, Option, Some, None, Result, Ok, Err, refl, sym, ap, ap₂, ◌∙◌, arith, eqb-true}
 use Rattle.std.specs.Prelude.{is_some, option_map, unwrap_or}
 use Rattle.std.proofs.lemmas.Bool.{ltb-false, or_parts}
-use Rattle.std.proofs.lemmas.List.{append-nil, map_push, length-drop, drop-drop}
-use Rattle.std.proofs.lemmas.List.Elements.{All-push}
+use Rattle.std.proofs.lemmas.List.{append-nil}
 use Rattle.page.specs.declared.fault.Fault.{Fault}
 use Rattle.page.specs.declared.fault.Fault.TheVariants.{NoResource, BadLsn}
-use Rattle.wal.specs.declared.header.LogStart.{LogStart}
-use Rattle.wal.specs.declared.header.LogStart.TheVariants.{Version1, Version2}
-use Rattle.wal.specs.Records.{LogRecord, CheckpointBegin, lsn_before}
-use Rattle.wal.specs.Headers.{header_bytes}
-use Rattle.wal.specs.Frames.{length_of, frame_at, frame_if_right, next_at, frames_at, frames_behind, ◌>>=◌, IsPlace, ArePlaces, record_of, Fails}
+use Rattle.log_laws.specs.Records.{LogRecord, CheckpointBegin}
+use Rattle.wal.specs.Frames.{length_of, frame_at, frame_if_right, next_at, frames_at, ◌>>=◌, record_of, Fails}
 use Rattle.wal.specs.declared.sizes.TheConstants.{LARGEST_BODY}
 
 pub chosen : {A : Type 0} (b : Bool) (x y z : A) → cond b x y ≡ z → ((b ≡ true) × (x ≡ z)) ⊎ ((b ≡ false) × (y ≡ z))

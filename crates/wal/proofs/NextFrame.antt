@@ -1,10 +1,9 @@
 -- The frame at the front, by its size only.
-use Rattle.std.proofs.Common.{◌≡◌, ◌≢◌, ℕ, List, Option, Some, None, Result, Ok, Err, refl, sym, ap, ◌∙◌, eq-eqb, ne_eqb}
+use Rattle.std.proofs.Common.{◌≡◌, ◌≢◌, ℕ, Option, Some, None, Result, Ok, Err, refl, sym, ap, ◌∙◌, eq-eqb, ne_eqb}
 use Rattle.std.specs.Prelude.{option_map, IfSome}
 use Rattle.page.specs.declared.fault.Fault.{Fault}
 use Rattle.page.specs.declared.fault.Fault.TheVariants.{NoResource, BadRecord, BadLsn}
-use Rattle.wal.specs.Records.{PlainRecord, LogRecord}
-use Rattle.wal.specs.Reading.{plain_at, plain_record_at, ◌>>=◌}
+use Rattle.log_laws.specs.Records.{LogRecord}
 use Rattle.wal.specs.Frames.{frame_if_right, size_in, Fails}
 
 -- A BODY by the LSN that it encodes

@@ -5,18 +5,18 @@ use Rattle.std.proofs.lemmas.Bool.{false≢true}
 use Rattle.std.proofs.lemmas.List.Elements.{All-from_recursion}
 use Rattle.page.specs.declared.profile.TheConstants.{LOG_MAGIC}
 use Rattle.page.specs.declared.page.Page.{Page}
-use Rattle.wal.specs.declared.record.State.TheVariants.{Prepared, Aborting}
-use Rattle.wal.specs.Records.{TableEntry, LogRecord, Prepare, CheckpointBegin, CheckpointEnd, LogContent, history}
-use Rattle.wal.specs.Meaning.{no_base, state_at}
-use Rattle.wal.specs.Laws.{IsLawful}
-use Rattle.wal.specs.Tail.{is_clr, is_end, in_doubt_of, losers_of, tail_of, with_tail}
-use Rattle.wal.specs.Undo.{lost_in, doubtful_in, undone_by}
-use Rattle.wal.specs.Redo.{applied, rec_lsn_of}
-use Rattle.wal.specs.Pages.{PageLaw}
-use Rattle.wal.specs.Checkpoint.{DirtyLaw, true_table}
-use Rattle.wal.specs.Store.{NamesPages, Lawful, store_out}
+use Rattle.log_laws.specs.declared.state.State.TheVariants.{Prepared, Aborting}
+use Rattle.log_laws.specs.Records.{TableEntry, LogRecord, Prepare, CheckpointBegin, CheckpointEnd, LogContent, history}
+use Rattle.log_laws.specs.Meaning.{no_base, state_at}
+use Rattle.log_laws.specs.Laws.{IsLawful}
+use Rattle.log_laws.specs.Tail.{is_clr, is_end, in_doubt_of, losers_of, tail_of, with_tail}
+use Rattle.log_laws.specs.Undo.{lost_in, doubtful_in, undone_by}
+use Rattle.log_laws.specs.Redo.{applied, rec_lsn_of}
+use Rattle.log_laws.specs.Pages.{PageLaw}
+use Rattle.log_laws.specs.Checkpoint.{DirtyLaw, true_table}
+use Rattle.log_laws.specs.Store.{NamesPages, Lawful, store_out}
 use Rattle.wal.specs.Reads.{log_text}
-use Rattle.wal.proofs.Histories.{each_found}
+use Rattle.log_laws.proofs.Histories.{each_found}
 use Rattle.wal.proofs.Rows.{a, b, U, C, K, A, E, L, holding, store_of, active, dirty_from_first}
 
 abbrev pub P : ℕ → ℕ → LogRecord

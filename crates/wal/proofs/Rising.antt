@@ -1,33 +1,17 @@
--- Ascending numbers, and a loop that checks whether they ascend.
+-- A loop that checks whether numbers ascend, and the tables of a record.
 use Rattle.std.proofs.Common.{◌≡◌, ℕ, ◌+◌, ◌<◌, ◌≤◌, List, [], ◌∷◌, length, get_or, take, drop, map, refl, sym, ap, subst, suc, drop-cons, ◌∙◌, arith}
-use Rattle.std.specs.Prelude.{All, ◌↔◌, ⊤}
+use Rattle.std.specs.Prelude.{All, ◌↔◌}
 use Rattle.std.proofs.lemmas.List.{take_more, drop_all, take_all, get_or-map, length-map}
 use Rattle.std.proofs.lemmas.List.Elements.{All-push}
 use Rattle.std.specs.List.{AllByRecursion}
 use Rattle.std.proofs.lemmas.List.Elements.{All-from_recursion, recursion_from_All}
 use Rattle.wal.specs.declared.record.Entry.{Entry}
-use Rattle.wal.specs.Records.{tx_in, page_in}
+use Rattle.log_laws.specs.Records.{tx_in, page_in}
 use Rattle.wal.specs.Content.{entry_of}
-use Rattle.wal.specs.Spelling.{FitsEntry, FitsDirty, FitsTable, IsRising}
+use Rattle.wal.specs.Spelling.{FitsEntry, FitsDirty, FitsTable}
+use Rattle.log_laws.specs.Checkpoint.{IsRising}
+use Rattle.log_laws.proofs.Rising.{RisesFrom, rises_rising, rising_from_0}
 use Rattle.page.specs.declared.profile.TheConstants.{PAGES, TRANSACTIONS}
-
--- each number is smaller than the next, and the first is at least `low`
-abbrev pub RisesFrom : ℕ → List ℕ → Type 0
-RisesFrom low [] = ⊤
-RisesFrom low (n ∷ ns) = (low ≤ n) × RisesFrom (n + 1) ns
-
-pub rises_rising : (low : ℕ) (ns : List ℕ) → RisesFrom low ns → IsRising ns
-rises_rising low [] h = tt
-rises_rising low (m ∷ []) h = tt
-rises_rising low (m ∷ n ∷ ns) h = (omega (arith, h.1.0), rises_rising (m + 1) (n ∷ ns) h.1)
-
-rising_rises : (low m : ℕ) (ns : List ℕ) → low ≤ m → IsRising (m ∷ ns) → RisesFrom low (m ∷ ns)
-rising_rises low m [] le h = (le, tt)
-rising_rises low m (n ∷ ns) le h = (le, rising_rises (m + 1) n ns (omega (arith, h.0)) h.1)
-
-pub rising_from_0 : (ns : List ℕ) → IsRising ns → RisesFrom 0 ns
-rising_from_0 [] h = tt
-rising_from_0 (n ∷ ns) h = rising_rises 0 n ns (omega arith) h
 
 -- ---- the loop
 

@@ -7,23 +7,23 @@ use Rattle.std.proofs.lemmas.Option.{same_Some}
 use Rattle.page.specs.Image.{Image}
 use Rattle.page.specs.declared.page.Page.{Page}
 use Rattle.page.specs.Store.{StoreContent, AreNumbered}
-use Rattle.wal.specs.declared.header.LogStart.TheVariants.{Version1}
-use Rattle.wal.specs.declared.record.State.TheVariants.{Active}
-use Rattle.wal.specs.Records.{TableEntry, LogRecord, Update, Compensation, Commit, Abort, End, CheckpointBegin, CheckpointEnd, History, LogContent, history, ◌⧺◌, base_lsn}
-use Rattle.wal.specs.Meaning.{no_base, winners, touches}
-use Rattle.wal.specs.Laws.{IsLawful}
-use Rattle.wal.specs.Tail.{tail_of}
-use Rattle.wal.specs.Hops.{hops}
-use Rattle.wal.specs.Undo.{undone_by}
-use Rattle.wal.specs.Redo.{redo_of, applied, rec_lsn_of}
-use Rattle.wal.specs.Pages.{PageLaw}
-use Rattle.wal.specs.Checkpoint.{DirtyLaw, first_end}
-use Rattle.wal.specs.Store.{NamesPages, Lawful, store_out}
+use Rattle.log_laws.specs.declared.start.LogStart.TheVariants.{Version1}
+use Rattle.log_laws.specs.declared.state.State.TheVariants.{Active}
+use Rattle.log_laws.specs.Records.{TableEntry, LogRecord, Update, Compensation, Commit, Abort, End, CheckpointBegin, CheckpointEnd, History, LogContent, history, ◌⧺◌, base_lsn}
+use Rattle.log_laws.specs.Meaning.{no_base, winners, touches}
+use Rattle.log_laws.specs.Laws.{IsLawful}
+use Rattle.log_laws.specs.Tail.{tail_of}
+use Rattle.log_laws.specs.Hops.{hops}
+use Rattle.log_laws.specs.Undo.{undone_by}
+use Rattle.log_laws.specs.Redo.{redo_of, applied, rec_lsn_of}
+use Rattle.log_laws.specs.Pages.{PageLaw}
+use Rattle.log_laws.specs.Checkpoint.{DirtyLaw, first_end}
+use Rattle.log_laws.specs.Store.{NamesPages, Lawful, store_out}
 use Rattle.wal.specs.Cut.{Cut}
 use Rattle.wal.specs.Reads.{log_text, Reads}
 use Rattle.wal.specs.Spelling.{frame, Fits}
-use Rattle.wal.specs.Theorems.{GoesOn}
-use Rattle.wal.proofs.Histories.{record_above, each_found}
+use Rattle.log_laws.specs.Theorems.{GoesOn}
+use Rattle.log_laws.proofs.Histories.{record_above, each_found}
 use Rattle.wal.proofs.CutBytes.{cuts_settle}
 use Rattle.page.specs.declared.profile.TheConstants.{SLOTS, LOG_MAGIC}
 

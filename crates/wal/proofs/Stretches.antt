@@ -1,5 +1,5 @@
 -- Frames of a stretch, and of what was read before it.
-use Rattle.std.proofs.Common.{◌≡◌, ℕ, zero, suc, ◌+◌, ◌-◌, ◌^◌, ◌≤◌, ◌<◌, List, [], ◌∷◌, ◌++◌, length, take, drop, map, Some, Ok, Err, Result, Option, None, inl, inr, refl, sym, ap, ap₂, subst, ◌∙◌, append_assoc, arith, length-append}
+use Rattle.std.proofs.Common.{◌≡◌, ℕ, zero, suc, ◌+◌, ◌-◌, ◌^◌, ◌≤◌, ◌<◌, List, [], ◌∷◌, ◌++◌, length, take, drop, map, Some, Ok, Err, Result, Option, None, inl, inr, sym, ap, ap₂, subst, ◌∙◌, append_assoc, arith, length-append}
 use Rattle.std.specs.Prelude.{All, is_some, IfOk, IfNone}
 use Rattle.std.specs.List.{AllByRecursion}
 use Rattle.std.proofs.lemmas.List.{append-nil, drop_all, drop-drop, drop-take, length-drop, length-map, length-take, take_at}
@@ -8,9 +8,9 @@ use Rattle.std.proofs.lemmas.Bool.Decides.{leb_tells}
 use Rattle.std.proofs.Math.Seq.{take-append-add}
 use Rattle.page.proofs.BigEndian.{AreBytes, AreBytes-drop}
 use Rattle.page.specs.declared.fault.Fault.{Fault}
-use Rattle.wal.specs.declared.header.LogStart.{LogStart}
+use Rattle.log_laws.specs.declared.start.LogStart.{LogStart}
 use Rattle.wal.specs.declared.stretch.Stretch.{Stretch}
-use Rattle.wal.specs.Records.{LogRecord, lsn_before}
+use Rattle.log_laws.specs.Records.{LogRecord, lsn_before}
 use Rattle.wal.specs.Headers.{header_of, header_bytes, start_at}
 use Rattle.std.specs.Int.{w32, to_be_bytes}
 use Rattle.wal.specs.Spelling.{body, frame, Fits}

@@ -6,13 +6,13 @@ use Rattle.std.proofs.lemmas.Bool.{ltb-false, le-ltb}
 use Rattle.std.proofs.lemmas.List.{length-append}
 use Rattle.std.proofs.Math.Nat.{mul-suc}
 use Rattle.std.proofs.lemmas.Option.{same_Some}
-use Rattle.wal.specs.declared.record.State.{State}
-use Rattle.wal.specs.declared.record.State.TheVariants.{Active, Aborting, Prepared}
-use Rattle.wal.specs.Records.{TableEntry, tx_in, page_in}
+use Rattle.log_laws.specs.declared.state.State.{State}
+use Rattle.log_laws.specs.declared.state.State.TheVariants.{Active, Aborting, Prepared}
+use Rattle.log_laws.specs.Records.{TableEntry, tx_in, page_in}
 use Rattle.wal.specs.Spelling.{state, entry, dirty_page, table, FitsEntry, FitsDirty, FitsTable}
 use Rattle.wal.specs.Reading.{◌>>=◌, number_at, tx_at, state_at, entry_at, dirty_at, table_at, transactions_at, dirties_at}
 use Rattle.wal.proofs.Loop.{chosen}
-use Rattle.wal.proofs.Rising.{RisesFrom, rises_rising, rising_from_0}
+use Rattle.log_laws.proofs.Rising.{RisesFrom, rises_rising, rising_from_0}
 use Rattle.page.proofs.BigEndian.{AreBytes}
 use Rattle.wal.proofs.Fields.{AreBytes-rest, bind_some, Takes, Takes-then, IsField, first_of_all, field32, field64, FitsTx, tx_field}
 use Rattle.page.specs.declared.profile.TheConstants.{PAGES, TRANSACTIONS}

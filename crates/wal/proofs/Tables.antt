@@ -7,9 +7,9 @@ use Rattle.std.proofs.Math.Nat.{mul-suc}
 use Rattle.std.proofs.lemmas.Bool.{ltb-false, le-ltb, lt-ltb, cases_lt}
 use Rattle.std.proofs.lemmas.List.{append-nil, drop-drop, length-drop, take_more}
 use Rattle.std.proofs.lemmas.Option.{same_Some}
-use Rattle.wal.specs.declared.record.State.{State}
-use Rattle.wal.specs.declared.record.State.TheVariants.{Active, Aborting, Prepared}
-use Rattle.wal.specs.Records.{TableEntry}
+use Rattle.log_laws.specs.declared.state.State.{State}
+use Rattle.log_laws.specs.declared.state.State.TheVariants.{Active, Aborting, Prepared}
+use Rattle.log_laws.specs.Records.{TableEntry}
 use Rattle.wal.specs.Reading.{◌>>=◌, number_at, tx_at, state_at, entry_at, dirty_at, table_at, entry_there, table_in, IsTable}
 use Rattle.wal.proofs.Loop.{chosen, unwrapped}
 use Rattle.wal.proofs.Fields.{bind_some, guard_some}

@@ -7,11 +7,11 @@ use Rattle.std.proofs.lemmas.Bool.{or_cases, or_parts, eqb-false, ltb-false, ltb
 use Rattle.std.proofs.lemmas.List.{take_at, drop_at, take-append-drop, length-append, length-take, length-drop, drop-drop}
 use Rattle.page.specs.declared.fault.Fault.{Fault}
 use Rattle.page.specs.declared.fault.Fault.TheVariants.{NoResource, BadLogHeader, BadLength, BadRecord, BadLsn}
-use Rattle.wal.specs.declared.record.State.{State}
-use Rattle.wal.specs.declared.record.State.TheVariants.{Active, Aborting, Prepared}
-use Rattle.wal.specs.Records.{TableEntry, LogRecord, Update, Compensation, CheckpointEnd, lsn_before, LogContent}
-use Rattle.wal.specs.declared.header.LogStart.{LogStart}
-use Rattle.wal.specs.declared.header.LogStart.TheVariants.{Version1, Version2}
+use Rattle.log_laws.specs.declared.state.State.{State}
+use Rattle.log_laws.specs.declared.state.State.TheVariants.{Active, Aborting, Prepared}
+use Rattle.log_laws.specs.Records.{TableEntry, LogRecord, Update, Compensation, CheckpointEnd, lsn_before, LogContent}
+use Rattle.log_laws.specs.declared.start.LogStart.{LogStart}
+use Rattle.log_laws.specs.declared.start.LogStart.TheVariants.{Version1, Version2}
 use Rattle.wal.specs.Headers.{header_of, header_bytes, FitsStart, start_at}
 use Rattle.wal.specs.Spelling.{image, state, entry, dirty_page, table, body, frame, Fits}
 use Rattle.wal.specs.Reading.{body_at}
@@ -23,7 +23,7 @@ use Rattle.wal.proofs.Fields.{wide32}
 use Rattle.wal.proofs.Bodies.{body_takes, body_again}
 use Rattle.wal.proofs.TableFields.{table_length}
 use Rattle.wal.proofs.Headers.{start_small, header_dropped, header_room, start_again, no_start, Header, header_taken}
-use Rattle.wal.proofs.Histories.{size_of_log}
+use Rattle.log_laws.proofs.Histories.{size_of_log}
 use Rattle.page.specs.Image.{FitsSlot}
 use Rattle.page.specs.declared.profile.TheConstants.{VALUE_BYTES}
 use Rattle.wal.specs.declared.sizes.TheConstants.{LARGEST_BODY}

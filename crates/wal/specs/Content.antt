@@ -3,11 +3,11 @@ use Rattle.std.specs.Prelude.{◌≡◌, ℕ, List, ◌++◌, map, option_map}
 use Rattle.wal.specs.declared.record.Entry.{Entry}
 use Rattle.wal.specs.declared.record.Record.{Record}
 use Rattle.wal.specs.declared.record.Record.TheVariants as code
-use Rattle.wal.specs.Records.{TableEntry, LogRecord, Update, Compensation, Commit, Abort, End, Prepare, CheckpointBegin, CheckpointEnd}
+use Rattle.log_laws.specs.Records.{TableEntry, LogRecord, Update, Compensation, Commit, Abort, End, Prepare, CheckpointBegin, CheckpointEnd}
 use Rattle.wal.specs.declared.change.Change as put
 use Rattle.wal.specs.declared.view.RecordView.{RecordView}
 use Rattle.wal.specs.declared.view.RecordView.TheVariants as view
-use Rattle.wal.specs.Meaning.{Change}
+use Rattle.log_laws.specs.Meaning.{Change}
 
 -- a transaction and its entry in a table
 abbrev pub entry_of : ℕ × Entry → TableEntry

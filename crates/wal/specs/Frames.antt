@@ -3,8 +3,8 @@ use Rattle.std.specs.Prelude.{◌≡◌, ℕ, zero, suc, ◌+◌, ◌*◌, ◌^�
 use Rattle.std.specs.Int.{w32, from_be_bytes}
 use Rattle.page.specs.declared.fault.Fault.{Fault}
 use Rattle.page.specs.declared.fault.Fault.TheVariants.{NoResource, BadLogHeader, BadLength, BadRecord, BadLsn}
-use Rattle.wal.specs.declared.header.LogStart.{LogStart}
-use Rattle.wal.specs.Records.{LogRecord, CheckpointBegin, lsn_before, LogContent}
+use Rattle.log_laws.specs.declared.start.LogStart.{LogStart}
+use Rattle.log_laws.specs.Records.{LogRecord, CheckpointBegin, lsn_before, LogContent}
 use Rattle.wal.specs.Headers.{header_bytes, FitsStart, start_at}
 use Rattle.wal.specs.Reading.{body_at}
 use Rattle.wal.specs.Spelling.{Fits}

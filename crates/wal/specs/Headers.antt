@@ -2,8 +2,8 @@
 use Rattle.std.specs.Prelude.{ℕ, ◌≤◌, List, ◌++◌, drop, Option, Some, None, nat_lt, nat_eq, if◌then◌else◌, ⊤}
 use Rattle.std.specs.List.{starts_with}
 use Rattle.std.specs.Int.{w64, to_be_bytes}
-use Rattle.wal.specs.declared.header.LogStart.{LogStart}
-use Rattle.wal.specs.declared.header.LogStart.TheVariants.{Version1, Version2}
+use Rattle.log_laws.specs.declared.start.LogStart.{LogStart}
+use Rattle.log_laws.specs.declared.start.LogStart.TheVariants.{Version1, Version2}
 use Rattle.wal.specs.declared.sizes.TheConstants.{HEADER_BYTES, BASED_HEADER_BYTES, LARGEST_BASE}
 use Rattle.wal.specs.Reading.{◌>>=◌, number_at}
 use Rattle.page.specs.declared.profile.TheConstants.{LOG_MAGIC, BASED_LOG_MAGIC}

@@ -1,15 +1,5 @@
 pub mod Profile
-pub mod Records
-pub mod Meaning
-pub mod Laws
-pub mod Tail
-pub mod Hops
-pub mod Redo
-pub mod Pages
-pub mod Checkpoint
-pub mod Store
 pub mod Cut
-pub mod Undo
 pub mod Spelling
 pub mod Reading
 pub mod Head
@@ -18,5 +8,4 @@ pub mod Frames
 pub mod Reads
 pub mod Content
 pub mod Glances
-pub mod Theorems
 pub mod Stretches

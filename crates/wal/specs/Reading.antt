@@ -3,9 +3,9 @@ use Rattle.std.specs.Prelude.{◌≡◌, ℕ, zero, suc, ◌+◌, ◌-◌, ◌*�
 use Rattle.std.specs.List.{range_with_len}
 use Rattle.std.specs.Int.{Width, w32, w64, byte_len, from_be_bytes}
 use Rattle.page.specs.Image.{Image}
-use Rattle.wal.specs.declared.record.State.{State}
-use Rattle.wal.specs.declared.record.State.TheVariants.{Active, Aborting, Prepared}
-use Rattle.wal.specs.Records.{PlainRecord, TableEntry, tx_in, page_in, LogRecord, Update, Compensation, Commit, Abort, End, Prepare, CheckpointBegin, CheckpointEnd}
+use Rattle.log_laws.specs.declared.state.State.{State}
+use Rattle.log_laws.specs.declared.state.State.TheVariants.{Active, Aborting, Prepared}
+use Rattle.log_laws.specs.Records.{PlainRecord, TableEntry, tx_in, page_in, LogRecord, Update, Compensation, Commit, Abort, End, Prepare, CheckpointBegin, CheckpointEnd}
 use Rattle.page.specs.declared.profile.TheConstants.{PAGES, VALUE_BYTES, TRANSACTIONS, SLOTS}
 use Rattle.wal.specs.declared.sizes.TheConstants.{DIRTY_BYTES, ENTRY_BYTES, ABSENT}
 

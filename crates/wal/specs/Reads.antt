@@ -1,8 +1,8 @@
 -- What a log file is: the header, the encodings of its records with the LSNs after its base LSN, and a torn tail (own).
 use Rattle.std.specs.Prelude.{◌≡◌, ◌≢◌, ℕ, ◌+◌, ◌<◌, ◌≤◌, ◌^◌, List, [], ◌∷◌, ◌++◌, length, drop, ◌⊎◌, ⊤}
 use Rattle.std.specs.List.{AllByRecursion}
-use Rattle.wal.specs.declared.header.LogStart.{LogStart}
-use Rattle.wal.specs.Records.{LogRecord, lsn_before, LogContent, history, last_lsn}
+use Rattle.log_laws.specs.declared.start.LogStart.{LogStart}
+use Rattle.log_laws.specs.Records.{LogRecord, lsn_before, LogContent, history, last_lsn}
 use Rattle.wal.specs.Headers.{header_of, header_bytes, FitsStart}
 use Rattle.page.specs.Causes.{HasOneCause, HasNoCause}
 use Rattle.wal.specs.Spelling.{body, frame, Fits}

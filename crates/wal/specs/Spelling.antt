@@ -3,9 +3,10 @@ use Rattle.std.specs.Prelude.{ℕ, ◌-◌, ◌<◌, ◌≤◌, ◌^◌, List, [
 use Rattle.std.specs.List.{AllByRecursion}
 use Rattle.std.specs.Int.{w32, w64, to_be_bytes}
 use Rattle.page.specs.Image.{Image, FitsSlot}
-use Rattle.wal.specs.declared.record.State.{State}
-use Rattle.wal.specs.declared.record.State.TheVariants.{Active, Aborting, Prepared}
-use Rattle.wal.specs.Records.{TableEntry, tx_in, page_in, UpdateRecord, CompensationRecord, PlainRecord, LogRecord, Update, Compensation, Commit, Abort, End, Prepare, CheckpointBegin, CheckpointEnd}
+use Rattle.log_laws.specs.declared.state.State.{State}
+use Rattle.log_laws.specs.declared.state.State.TheVariants.{Active, Aborting, Prepared}
+use Rattle.log_laws.specs.Records.{TableEntry, tx_in, page_in, UpdateRecord, CompensationRecord, PlainRecord, LogRecord, Update, Compensation, Commit, Abort, End, Prepare, CheckpointBegin, CheckpointEnd}
+use Rattle.log_laws.specs.Checkpoint.{IsRising}
 use Rattle.page.specs.declared.profile.TheConstants.{PAGES, TRANSACTIONS, SLOTS}
 use Rattle.wal.specs.declared.sizes.TheConstants.{ABSENT}
 
@@ -104,12 +105,6 @@ pub record FitsEntry (e : TableEntry) : Type 0 where
 pub record FitsDirty (d : ℕ × ℕ) : Type 0 where
   pub page : d.0 < 2 ^ 32
   pub rec_lsn : d.1 < 2 ^ 64
-
--- each number is smaller than the next
-abbrev pub IsRising : List ℕ → Type 0
-IsRising [] = ⊤
-IsRising (m ∷ []) = ⊤
-IsRising (m ∷ n ∷ ns) = (m < n) × IsRising (n ∷ ns)
 
 -- at most this number of entries, each with an encoding, in ascending order of number
 pub record FitsTable {E : Type 0} (most : ℕ) (number : E → ℕ) (Fit : E → Type 0) (entries : List E) : Type 0 where

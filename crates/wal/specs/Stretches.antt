@@ -2,9 +2,9 @@
 use Rattle.std.specs.Prelude.{◌≡◌, ◌≢◌, ℕ, suc, ◌+◌, ◌*◌, ◌^◌, ◌≤◌, List, [], ◌∷◌, ◌++◌, length, take, drop, map, Option, Some, Result, Ok, Err, IfSome}
 use Rattle.page.specs.declared.fault.Fault.{Fault}
 use Rattle.page.specs.declared.fault.Fault.TheVariants.{NoResource}
-use Rattle.wal.specs.declared.header.LogStart.{LogStart}
+use Rattle.log_laws.specs.declared.start.LogStart.{LogStart}
 use Rattle.wal.specs.declared.stretch.Stretch.{Stretch}
-use Rattle.wal.specs.Records.{LogRecord, lsn_before}
+use Rattle.log_laws.specs.Records.{LogRecord, lsn_before}
 use Rattle.wal.specs.Headers.{header_bytes, start_at}
 use Rattle.wal.specs.Frames.{record_of, next_at}
 use Rattle.wal.specs.declared.sizes.TheConstants.{SMALLEST_FRAME}

@@ -4,8 +4,8 @@ ghost use Rattle.std.specs.Prelude.{◌≡◌, None, Some, IfSome, drop, option_
 ghost use Rattle.wal.specs.Content.{shown};
 ghost use Rattle.wal.specs.Frames.{IsPlace, frame_at};
 ghost use Rattle.wal.specs.Glances.{glance_of};
-ghost use Rattle.wal.specs.Meaning.{image_in};
-ghost use Rattle.wal.specs.Records.{LogRecord};
+ghost use Rattle.log_laws.specs.Meaning.{image_in};
+ghost use Rattle.log_laws.specs.Records.{LogRecord};
 ghost use Rattle.wal.specs.Spelling.{Fits};
 
 use crate::frame::body_view;
@@ -24,7 +24,7 @@ pub struct Body<'a> {
 
 impl<'a> Model for Body<'a> {
     ghost use Rattle.std.specs.Prelude.{Option, option_map};
-    ghost use Rattle.wal.specs.Records.{LogRecord};
+    ghost use Rattle.log_laws.specs.Records.{LogRecord};
     ghost use Rattle.wal.specs.Reading.{body_at};
     ghost use Rattle.wal.specs.Frames.{IsBody};
 

@@ -1,7 +1,7 @@
 //! What every record has: its transaction, the record before it, and what it puts into a cell.
 
 ghost use Rattle.std.specs.Prelude.{◌≡◌, option_map};
-ghost use Rattle.wal.specs.Meaning.{owner, prev_of, change_of};
+ghost use Rattle.log_laws.specs.Meaning.{owner, prev_of, change_of};
 ghost use Rattle.wal.specs.Content.{shown, shown_change};
 
 use crate::view::RecordView;

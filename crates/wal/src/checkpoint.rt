@@ -1,9 +1,9 @@
 //! The checkpoint that a master names.
 
 ghost use Rattle.std.specs.Prelude.{◌≡◌, ◌≤◌, option_map, IfSome};
-ghost use Rattle.wal.specs.Records.{CheckpointEnd, history, base_lsn};
+ghost use Rattle.log_laws.specs.Records.{CheckpointEnd, history, base_lsn};
 ghost use Rattle.wal.specs.Spelling.{Fits};
-ghost use Rattle.wal.specs.Checkpoint.{first_end, checkpoint_at};
+ghost use Rattle.log_laws.specs.Checkpoint.{first_end, checkpoint_at};
 
 use crate::log::Log;
 use crate::view::{DirtyTable, RecordView, TransactionTable};

@@ -7,8 +7,9 @@ ghost use Rattle.wal.specs.Spelling.{image, state as state_text, entry as entry_
 ghost use Rattle.wal.specs.Content.{entry_of, Keeps};
 ghost use Rattle.page.specs.Image.{FitsSlot};
 
-use crate::record::{Entry, State};
+use crate::record::Entry;
 use crate::sizes::{ABSENT, DIRTY_BYTES, ENTRY_BYTES, LSN_BYTES};
+use log_laws::State;
 use page::{SLOTS, VALUE_BYTES, Value};
 use std::alloc::{AllocError, Allocator};
 

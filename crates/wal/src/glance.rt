@@ -1,8 +1,8 @@
 //! What is seen of a record at a glance: its transaction, and the cell that it is in.
 
 ghost use Rattle.std.specs.Prelude.{◌≡◌, Some};
-ghost use Rattle.wal.specs.Records.{LogRecord};
-ghost use Rattle.wal.specs.Meaning.{cell_of};
+ghost use Rattle.log_laws.specs.Records.{LogRecord};
+ghost use Rattle.log_laws.specs.Meaning.{cell_of};
 ghost use Rattle.wal.specs.Glances.{glance_of, update_glance, compensation_glance, fields_glance, body_glance};
 
 use crate::field::{plain_at, slot_at, u32_at, u64_at};

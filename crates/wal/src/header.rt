@@ -1,48 +1,22 @@
 //! The header of a log file.
 
 ghost use Rattle.std.specs.Prelude.{◌≡◌};
-ghost use Rattle.wal.specs.Records.{lsn_before};
 ghost use Rattle.wal.specs.Headers.{header_bytes, header_of, start_at};
-ghost use Rattle.wal.specs.declared.header.LogStart.TheVariants.{Version1, Version2};
+ghost use Rattle.log_laws.specs.declared.start.LogStart.TheVariants.{Version1, Version2};
 
 use crate::field::u64_at;
 use crate::sizes::{BASED_HEADER_BYTES, HEADER_BYTES, LARGEST_BASE};
+use log_laws::LogStart;
 use page::{BASED_LOG_MAGIC, LOG_MAGIC};
 
-/// How a log file begins: the version of its format, and the LSN after which its records come.
-#[derive(Clone, Copy)]
-pub enum LogStart {
-    /// Version 1: the first record has LSN 1.
-    Version1,
-    /// Version 2, for a log that continues one that was archived.
-    Version2 {
-        /// The base LSN: that of the last record before this log. The first record here has the
-        /// next LSN.
-        base: u64,
-    },
-}
-
-impl LogStart {
-    /// The LSN after which its records come.
-    #[inline(always)]
-    pub fn base(self) -> u64
-        ensures { result ≡ lsn_before self }
-    {
-        match self {
-            LogStart::Version1 => 0,
-            LogStart::Version2 { base } => base,
-        }
-    }
-
-    /// How many bytes the header takes.
-    #[inline(always)]
-    pub fn header_bytes(self) -> usize
-        ensures { result ≡ header_bytes self }
-    {
-        match self {
-            LogStart::Version1 => HEADER_BYTES,
-            LogStart::Version2 { .. } => BASED_HEADER_BYTES,
-        }
+/// How many bytes the header of a log takes that begins so.
+#[inline(always)]
+pub fn header_bytes(start: LogStart) -> usize
+    ensures { result ≡ header_bytes start }
+{
+    match start {
+        LogStart::Version1 => HEADER_BYTES,
+        LogStart::Version2 { .. } => BASED_HEADER_BYTES,
     }
 }
 

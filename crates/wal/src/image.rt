@@ -1,7 +1,7 @@
 //! The image that a record put into its cell, without the rest of the record.
 
 ghost use Rattle.std.specs.Prelude.{◌≡◌, true, is_some, option_map};
-ghost use Rattle.wal.specs.Meaning.{image_in};
+ghost use Rattle.log_laws.specs.Meaning.{image_in};
 ghost use Rattle.wal.specs.Reading.{update_at, compensation_at, fields_at, body_at};
 
 use crate::field::{image_at, plain_at, slot_at, u32_at, u64_at};

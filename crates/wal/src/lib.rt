@@ -34,16 +34,14 @@ pub use field::{dirty_bytes, entry_bytes};
 pub use frame::{body_view, write_frame};
 pub use glance::Glance;
 pub use head::FrameHead;
-pub use header::{LogStart, based_header, plain_header, start_at};
+pub use header::{based_header, header_bytes, plain_header, start_at};
 pub use laws::{
-    cuts_compose, cuts_resume, cuts_settle, hops_meet_pending, lawful_by_record, losers_end,
-    no_fault_of_a_log, numbers_of_a_log, one_log_fault, one_reading, redo_replays, redo_suffices,
-    replay_is_winners, restart_goes_on, store_settles, table_tells_doubt, tail_settles,
-    undo_is_tail,
+    cuts_compose, cuts_settle, no_fault_of_a_log, numbers_of_a_log, one_log_fault, one_reading,
 };
 pub use log::{Log, first_frames, read_log, read_log_behind, read_log_by};
+pub use log_laws::{LogStart, State};
 pub use next::next_at;
-pub use record::{Entry, Record, State};
+pub use record::{Entry, Record};
 pub use sizes::{
     ABSENT, BASED_HEADER_BYTES, CELL_HEAD, CHECKPOINT_FRAME, DIRTY_BYTES, ENTRY_BYTES,
     LARGEST_BASE, LONGEST_FRAME, LSN_BYTES, PLAIN_FRAME, SMALLEST_FRAME,

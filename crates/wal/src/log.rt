@@ -2,8 +2,8 @@
 
 ghost use Rattle.std.specs.Prelude.{◌≡◌, ◌+◌, ◌*◌, ◌<◌, ◌≤◌, ◌^◌, ◌++◌, ℕ, List, length, Some, None, option_map, IfErr, IfNone, IfOk, IfSome, Ok};
 ghost use Rattle.wal.specs.Glances.{IsGlanceBehind};
-ghost use Rattle.wal.specs.Meaning.{image_in};
-ghost use Rattle.wal.specs.Records.{LogContent, ◌▸◌, history, last_lsn, base_lsn, record_at, first};
+ghost use Rattle.log_laws.specs.Meaning.{image_in};
+ghost use Rattle.log_laws.specs.Records.{LogContent, ◌▸◌, history, last_lsn, base_lsn, record_at, first};
 ghost use Rattle.wal.specs.Frames.{entry_at, log_at, Fails, Gives, IsLog};
 ghost use Rattle.wal.specs.Reads.{Cause, Reads};
 ghost use Rattle.wal.specs.Stretches.{AreFront, AreBehind, BeginsCut, BeginsLog};
@@ -13,12 +13,13 @@ ghost use Rattle.wal.specs.declared.sizes.TheConstants.{BASED_HEADER_BYTES, HEAD
 
 use crate::body::Body;
 use crate::glance::Glance;
-use crate::header::{LogStart, start_at};
+use crate::header::{header_bytes, start_at};
 use crate::joining::{stretch_alone, stretch_by};
 use crate::part::Part;
 use crate::reading::torn_from;
 use crate::stretch::Stretch;
 use crate::view::RecordView;
+use log_laws::LogStart;
 use page::{Fault, Value};
 use std::alloc::Global;
 use std::marker::Model;
@@ -221,7 +222,7 @@ fn split_header<'a>(
     let Some(begins) = start_at(bytes) else {
         return Err(Fault::BadLogHeader);
     };
-    let (header, behind) = bytes.split_at(begins.header_bytes());
+    let (header, behind) = bytes.split_at(header_bytes(begins));
     let none = Stretch::none(alloc, begins.base() + 1, header.len(), 0);
     Ok((begins, header, none, behind))
 }
@@ -293,7 +294,7 @@ pub fn first_frames<R: Threads + Sync>(
         return Err(Fault::BadLogHeader);
     };
     let first = begins.base() + 1;
-    let frames = stretch_by(rt, alloc, front, first, begins.header_bytes(), threads)?;
+    let frames = stretch_by(rt, alloc, front, first, header_bytes(begins), threads)?;
     let next = frames.lsn + frames.offsets.len() as u64;
     torn_from(next, 0, front, frames.end)?;
     Ok(frames)

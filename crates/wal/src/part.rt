@@ -1,7 +1,7 @@
 //! A part of a log: frames one after the other in bytes of their own.
 
 ghost use Rattle.std.specs.Prelude.{◌≡◌, ◌<◌, List, All, Some, length, map};
-ghost use Rattle.wal.specs.Records.{LogRecord};
+ghost use Rattle.log_laws.specs.Records.{LogRecord};
 ghost use Rattle.wal.specs.Frames.{IsPlace, record_of, entry_at};
 
 use crate::body::Body;

@@ -1,25 +1,15 @@
 //! The records of a log.
 
 ghost use Rattle.std.specs.Prelude.{◌≡◌, ◌<◌, ◌≤◌, ◌^◌, true, ◌↔◌, map, All};
-ghost use Rattle.wal.specs.Records.{tx_in, page_in};
-ghost use Rattle.wal.specs.Spelling.{Fits, FitsPlain, FitsEntry, FitsDirty, FitsTable, IsRising};
+ghost use Rattle.log_laws.specs.Records.{tx_in, page_in};
+ghost use Rattle.wal.specs.Spelling.{Fits, FitsPlain, FitsEntry, FitsDirty, FitsTable};
+ghost use Rattle.log_laws.specs.Checkpoint.{IsRising};
 ghost use Rattle.wal.specs.Content.{entry_of, content};
 ghost use Rattle.page.specs.declared.profile.TheConstants.{PAGES, TRANSACTIONS};
 ghost use Rattle.page.specs.Image.{FitsSlot};
 
+use log_laws::State;
 use page::{PAGES, SLOTS, TRANSACTIONS, VALUE_BYTES, Value};
-
-/// The state of a transaction in a transaction table.
-#[derive(Clone, Copy, Debug, PartialEq, Eq)]
-pub enum State {
-    /// It is working.
-    Active,
-    /// It has asked to be rolled back.
-    Aborting,
-    /// It has prepared to commit, and waits for the decision (two-phase commit). A restart leaves
-    /// it in doubt: its changes stay, and it is listed.
-    Prepared,
-}
 
 /// What a transaction table has for a transaction.
 #[derive(Clone, Copy, Debug, PartialEq, Eq)]

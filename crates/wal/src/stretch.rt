@@ -2,7 +2,7 @@
 
 ghost use Rattle.std.specs.Prelude.{◌≡◌, ◌≤◌, ◌<◌, ◌+◌, ◌^◌, ℕ, List, All, Ok, Some, drop, length, IfOk, IfSome, IfNone, IsOkUnless};
 ghost use Rattle.page.specs.declared.fault.Fault.TheVariants.{NoResource};
-ghost use Rattle.wal.specs.Records.{LogRecord};
+ghost use Rattle.log_laws.specs.Records.{LogRecord};
 ghost use Rattle.wal.specs.Frames.{next_at};
 ghost use Rattle.wal.specs.Stretches.{IsStretch, IfStretch, LeavesRoom, HasNoFrame};
 

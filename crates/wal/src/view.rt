@@ -2,7 +2,7 @@
 
 ghost use Rattle.std.specs.Prelude.{ℕ, slice_index_or, ◌≡◌, ◌<◌, ◌*◌, ◌≤◌, length, map, option_map, IfSome, IfOk, IsOkUnless};
 ghost use Rattle.std.specs.List.{slice_get};
-ghost use Rattle.wal.specs.Records.{TableEntry, tx_in, page_in};
+ghost use Rattle.log_laws.specs.Records.{TableEntry, tx_in, page_in};
 ghost use Rattle.wal.specs.Reading.{entry_at, dirty_at, table_at, entries_in, AreEntries, dirties_in, AreDirties};
 ghost use Rattle.wal.specs.Spelling.{Fits};
 ghost use Rattle.wal.specs.Content.{entry_of, content, shown};
@@ -26,7 +26,7 @@ pub struct TransactionTable<'a> {
 
 impl<'a> Model for TransactionTable<'a> {
     ghost use Rattle.std.specs.Prelude.{List};
-    ghost use Rattle.wal.specs.Records.{TableEntry};
+    ghost use Rattle.log_laws.specs.Records.{TableEntry};
 
     ghost Value = { List TableEntry };
 

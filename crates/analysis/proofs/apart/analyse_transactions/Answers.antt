@@ -1,5 +1,5 @@
 use Rattle.std.proofs.Common.{ap, ◌∙◌}
-use Rattle.wal.specs.Records.{history}
+use Rattle.log_laws.specs.Records.{history}
 use Rattle.analysis.specs.Tables.{entry_at, analysed_entry}
 use Rattle.analysis.proofs.Rising.{entries_rise}
 use Rattle.analysis.proofs.apart.analyse_transactions.Goals as goal

@@ -1,7 +1,7 @@
 use Rattle.std.proofs.Common.{[], ap, ◌∙◌, ℕ, List}
 use Rattle.wal.specs.declared.record.Entry.{Entry}
-use Rattle.wal.specs.Redo.{rec_lsn_of}
-use Rattle.wal.specs.Records.{history}
+use Rattle.log_laws.specs.Redo.{rec_lsn_of}
+use Rattle.log_laws.specs.Records.{history}
 use Rattle.analysis.specs.Tables.{entry_at, base_of}
 use Rattle.analysis.proofs.Numbers.{none_listed}
 use Rattle.analysis.proofs.base.checkpoint_tables.Goals as goal

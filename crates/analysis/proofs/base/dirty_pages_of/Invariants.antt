@@ -1,5 +1,5 @@
 use Rattle.std.proofs.Common.{◌≡◌, ℕ, ◌-◌, drop, length}
-use Rattle.wal.specs.Redo.{rec_lsn_of}
+use Rattle.log_laws.specs.Redo.{rec_lsn_of}
 use Rattle.analysis.proofs.base.dirty_pages_of.Given as goal
 
 abbrev pub invariant-loop-done : goal.invariant-loop-done

@@ -1,5 +1,5 @@
 use Rattle.std.proofs.Common.{◌≡◌, ℕ, ◌-◌, drop, length}
-use Rattle.wal.specs.Undo.{entry_for}
+use Rattle.log_laws.specs.Undo.{entry_for}
 use Rattle.analysis.specs.Tables.{entry_at}
 use Rattle.analysis.proofs.base.transactions_of.Given as goal
 

@@ -1,7 +1,7 @@
 use Rattle.std.proofs.Common.{sym, ap, ◌∙◌, arith, max}
-use Rattle.wal.specs.Records.{history}
-use Rattle.wal.specs.Checkpoint.{first_end}
-use Rattle.wal.proofs.Histories.{first_all}
+use Rattle.log_laws.specs.Records.{history}
+use Rattle.log_laws.specs.Checkpoint.{first_end}
+use Rattle.log_laws.proofs.Histories.{first_all}
 use Rattle.analysis.proofs.Ends.{no_end_at_first, end_met}
 use Rattle.analysis.proofs.checkpoint_scan.end_in.Goals as goal
 

@@ -1,6 +1,6 @@
 use Rattle.std.proofs.Common.{ap, ◌∙◌, arith}
-use Rattle.wal.specs.Records.{history}
-use Rattle.wal.specs.Redo.{rec_lsn_of}
+use Rattle.log_laws.specs.Records.{history}
+use Rattle.log_laws.specs.Redo.{rec_lsn_of}
 use Rattle.analysis.specs.Tables.{analysed_rec_lsn, redo_lsn_of}
 use Rattle.analysis.proofs.Rising.{pages_rise}
 use Rattle.analysis.proofs.dirty.analyse_all_pages.Goals as goal

@@ -1,6 +1,6 @@
 use Rattle.std.proofs.Common.{◌≡◌, ◌≤◌, ◌⊎◌, suc, inl, inr, sym, ap, subst, ◌∙◌, arith, max}
-use Rattle.wal.specs.Records.{history, last_lsn, base_lsn}
-use Rattle.wal.specs.Redo.{rec_lsn_of}
+use Rattle.log_laws.specs.Records.{history, last_lsn, base_lsn}
+use Rattle.log_laws.specs.Redo.{rec_lsn_of}
 use Rattle.analysis.specs.Tables.{redo_lsn_of, AreAllListed, ServesRedo}
 use Rattle.analysis.proofs.Scanned.{at_first}
 use Rattle.analysis.proofs.NoFurther.{serves}

@@ -1,7 +1,7 @@
 use Rattle.std.proofs.Common.{◌≡◌, ◌+◌, inr, sym, ap, ◌∙◌, arith}
-use Rattle.wal.specs.Records.{history, last_lsn, first}
-use Rattle.wal.specs.Redo.{rec_lsn_of}
-use Rattle.wal.proofs.Histories.{size_of_first, first_all}
+use Rattle.log_laws.specs.Records.{history, last_lsn, first}
+use Rattle.log_laws.specs.Redo.{rec_lsn_of}
+use Rattle.log_laws.proofs.Histories.{size_of_first, first_all}
 use Rattle.analysis.specs.Tables.{analysed_rec_lsn, AreAllListed}
 use Rattle.analysis.proofs.Scanned.{rec_lsn_next}
 use Rattle.analysis.proofs.Maps.{listed_upto, stays_listed}

@@ -1,7 +1,7 @@
 use Rattle.std.proofs.Common.{◌≡◌, ◌≤◌, ◌<◌, ℕ, true, Option}
 use Rattle.std.specs.Prelude.{is_some}
-use Rattle.wal.specs.Records.{history, first}
-use Rattle.wal.specs.Redo.{rec_lsn_of}
+use Rattle.log_laws.specs.Records.{history, first}
+use Rattle.log_laws.specs.Redo.{rec_lsn_of}
 use Rattle.analysis.specs.Tables.{analysed_rec_lsn}
 use Rattle.analysis.specs.Steps.{AreListed}
 use Rattle.analysis.proofs.dirty.scan_pages.Given as goal

@@ -1,5 +1,5 @@
 use Rattle.std.proofs.Common.{◌≡◌, ◌∙◌, ap}
-use Rattle.wal.specs.Records.{history, record_at}
+use Rattle.log_laws.specs.Records.{history, record_at}
 use Rattle.recovery.proofs.Bytes.{read_same}
 use Rattle.aries_c.proofs.dump.aries_checkpoint.Goals as goal
 

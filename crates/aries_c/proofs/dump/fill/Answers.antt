@@ -1,6 +1,6 @@
 use Rattle.std.proofs.Common.{◌≡◌, ◌+◌, ◌-◌, ◌∙◌, arith, ap, sym}
 use Rattle.std.proofs.lemmas.List.{drop-set-lt}
-use Rattle.wal.specs.Records.{history, record_at}
+use Rattle.log_laws.specs.Records.{history, record_at}
 use Rattle.wal.specs.Content.{shown}
 use Rattle.aries_c.specs.Dump.{TellsRecord}
 use Rattle.aries_c.proofs.Places.{holds_more}

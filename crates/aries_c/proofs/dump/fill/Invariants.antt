@@ -1,5 +1,5 @@
 use Rattle.std.proofs.Common.{ℕ, ◌≡◌, ◌+◌, ◌<◌, ◌≤◌, drop, slice_index_or}
-use Rattle.wal.specs.Records.{history}
+use Rattle.log_laws.specs.Records.{history}
 use Rattle.aries_c.specs.declared.record.Record.{Record as Told}
 use Rattle.aries_c.specs.Dump.{TellsRecord}
 use Rattle.aries_c.proofs.dump.fill.Given as goal

@@ -1,5 +1,5 @@
 use Rattle.std.proofs.Common.{◌≡◌, ℕ, List, ◌∙◌, subst}
-use Rattle.wal.specs.Records.{PlainRecord}
+use Rattle.log_laws.specs.Records.{PlainRecord}
 use Rattle.wal.specs.Spelling.{frame}
 use Rattle.journal.proofs.Written.{plain_is}
 use Rattle.aries_c.specs.Writing.{Puts}

@@ -1,6 +1,6 @@
 use Rattle.std.proofs.Common.{◌≡◌, ◌+◌, length, length-append, ap, subst, arith, inl}
 use Rattle.page.specs.Image.{Image}
-use Rattle.wal.specs.Records.{LogRecord}
+use Rattle.log_laws.specs.Records.{LogRecord}
 use Rattle.wal.specs.Spelling.{image}
 use Rattle.journal.specs.Arrays.{image_of}
 use Rattle.journal.specs.Writing.{IsWritten}

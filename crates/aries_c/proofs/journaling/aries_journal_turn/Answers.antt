@@ -1,5 +1,5 @@
 use Rattle.std.proofs.Common.{rules, ◌≡◌, ◌+◌, ℕ, inr, refl, sym, subst}
-use Rattle.wal.specs.Records.{Commit, Abort, Prepare}
+use Rattle.log_laws.specs.Records.{Commit, Abort, Prepare}
 use Rattle.journal.specs.Writing.{IsWritten}
 use Rattle.journal.specs.declared.refusal.Refusal.TheVariants.{BadImage}
 use Rattle.journal.specs.State.{plain_by}

@@ -1,5 +1,5 @@
 use Rattle.std.proofs.Common.{arith, refl}
-use Rattle.wal.specs.declared.header.LogStart.TheVariants.{Version1, Version2}
+use Rattle.log_laws.specs.declared.start.LogStart.TheVariants.{Version1, Version2}
 use Rattle.aries_c.proofs.log_writing.aries_write_log_header.Goals as goal
 
 pub returns-in-1-clause-written : goal.returns-in-1-clause-written

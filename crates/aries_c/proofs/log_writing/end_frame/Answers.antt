@@ -1,6 +1,6 @@
 use Rattle.std.proofs.Common.{◌≡◌, ◌∙◌, ℕ, List, sym, subst, inr, map}
 use Rattle.std.proofs.lemmas.Result.{err_from_is_err_and}
-use Rattle.wal.specs.Records.{TableEntry, CheckpointEnd}
+use Rattle.log_laws.specs.Records.{TableEntry, CheckpointEnd}
 use Rattle.wal.specs.Spelling.{Fits}
 use Rattle.wal.specs.Content.{entry_of}
 use Rattle.aries_c.specs.Tables.{told_entry, told_dirty}

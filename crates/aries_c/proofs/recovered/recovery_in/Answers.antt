@@ -1,6 +1,6 @@
 use Rattle.std.proofs.Common.{◌≡◌, List, ℕ, sym, subst}
 use Rattle.page.specs.File.{SpellsStore}
-use Rattle.wal.specs.Meaning.{BasePages}
+use Rattle.log_laws.specs.Meaning.{BasePages}
 use Rattle.recovery.specs.Recovery.{AreLawful}
 use Rattle.aries_c.proofs.recovered.recovery_in.Goals as goal
 

@@ -1,4 +1,4 @@
-use Rattle.wal.specs.Records.{history, first}
+use Rattle.log_laws.specs.Records.{history, first}
 use Rattle.aries_c.specs.Unfinished.{IsHighest}
 use Rattle.aries_c.proofs.unfinished.highest_in.Given as goal
 

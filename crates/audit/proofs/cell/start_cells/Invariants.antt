@@ -1,5 +1,5 @@
 use Rattle.std.proofs.Common.{◌≡◌, ◌<◌, ◌/◌, ◌%◌, ℕ, None, length, get_or}
-use Rattle.wal.specs.Pages.{base_pages}
+use Rattle.log_laws.specs.Pages.{base_pages}
 use Rattle.audit.specs.declared.cell.Cell.{Cell}
 use Rattle.page.specs.declared.profile.TheConstants.{SLOTS}
 use Rattle.audit.proofs.cell.start_cells.Given as goal

@@ -1,7 +1,7 @@
 use Rattle.std.proofs.Common.{◌≡◌, ◌<◌, ◌≤◌, sym, ap, subst, ◌∙◌, arith}
 use Rattle.std.proofs.lemmas.Bool.{ltb-true}
-use Rattle.wal.specs.Records.{LogRecord, history, record_at}
-use Rattle.wal.specs.Meaning.{prev_of}
+use Rattle.log_laws.specs.Records.{LogRecord, history, record_at}
+use Rattle.log_laws.specs.Meaning.{prev_of}
 use Rattle.wal.specs.Content.{shown}
 use Rattle.audit.specs.Standings.{is_finish_of, is_some_with}
 use Rattle.audit.proofs.Finishing.{finish_chain, behind_no_chain}

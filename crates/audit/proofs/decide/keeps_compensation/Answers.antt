@@ -1,8 +1,8 @@
 use Rattle.std.proofs.Common.{◌≡◌, option_map, eq-eqb, eqb-true, true, false, sym, subst, ◌∙◌, inl, inr}
 use Rattle.std.specs.Prelude.{IsTrue, ◌↔◌}
 use Rattle.std.proofs.lemmas.Bool.{both_ways, or_cases, or_parts}
-use Rattle.wal.specs.Records.{CompensationRecord}
-use Rattle.wal.specs.Meaning.{committed, ended, finished}
+use Rattle.log_laws.specs.Records.{CompensationRecord}
+use Rattle.log_laws.specs.Meaning.{committed, ended, finished}
 use Rattle.audit.specs.Standings.{newest_of}
 use Rattle.audit.proofs.Deciding.{HasUndone, clr_decided, end_decided}
 use Rattle.audit.proofs.decide.keeps_compensation.Goals as goal

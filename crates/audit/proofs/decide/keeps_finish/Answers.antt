@@ -1,6 +1,6 @@
 use Rattle.std.proofs.Common.{◌∙◌}
 use Rattle.std.proofs.lemmas.Bool.{both_ways, not-true}
-use Rattle.wal.specs.Meaning.{finished, ended, in_doubt}
+use Rattle.log_laws.specs.Meaning.{finished, ended, in_doubt}
 use Rattle.audit.proofs.Deciding.{neither}
 use Rattle.audit.proofs.decide.keeps_finish.Goals as goal
 

@@ -1,8 +1,8 @@
 use Rattle.std.proofs.Common.{◌-◌, ◌≡◌, ◌≤◌, ◌<◌, ◌∙◌, ℕ, Option, ap, subst, refl, arith, option_map}
 use Rattle.std.specs.Prelude.{IsTrue, ◌↔◌}
-use Rattle.wal.specs.Records.{UpdateRecord}
+use Rattle.log_laws.specs.Records.{UpdateRecord}
 use Rattle.audit.specs.declared.cell.Cell.{Cell}
-use Rattle.audit.specs.Cells.{last_writer}
+use Rattle.log_laws.specs.Meaning.{last_writer}
 use Rattle.audit.specs.Unfinished.{unfinished_in}
 use Rattle.audit.specs.Finished.{finish_in}
 use Rattle.audit.specs.Passing.{IsFreeFor}

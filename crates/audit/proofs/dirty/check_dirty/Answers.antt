@@ -5,8 +5,8 @@ use Rattle.std.proofs.lemmas.Option.{slice_get-get_or}
 use Rattle.std.proofs.lemmas.List.{take_all, get_or_default}
 use Rattle.std.proofs.lemmas.List.Elements.{All-more}
 use Rattle.page.specs.declared.page.Page.{Page}
-use Rattle.wal.specs.Records.{History, LogContent, history, last_lsn, first, base_lsn}
-use Rattle.wal.specs.Redo.{rec_lsn_of}
+use Rattle.log_laws.specs.Records.{History, LogContent, history, last_lsn, first, base_lsn}
+use Rattle.log_laws.specs.Redo.{rec_lsn_of}
 use Rattle.audit.specs.Pages.{page_lsn}
 use Rattle.audit.specs.Dirty.{first_missing, KeepsMissing, IsRecLsnInRange, IsCovered}
 use Rattle.audit.specs.FirstFault.{KeepsDirty}

@@ -1,6 +1,6 @@
 use Rattle.std.proofs.Common.{take}
 use Rattle.std.specs.Prelude.{All}
-use Rattle.wal.specs.Records.{history}
+use Rattle.log_laws.specs.Records.{history}
 use Rattle.audit.specs.FirstFault.{KeepsDirty}
 use Rattle.audit.proofs.dirty.check_dirty.Given as goal
 

@@ -1,9 +1,9 @@
 use Rattle.std.proofs.lemmas.List.{get_or-replicate, length-replicate}
 use Rattle.std.proofs.Common.{◌≡◌, ◌+◌, ◌++◌, length, take, drop, sym, ap, subst, ◌∙◌, arith, List, ℕ, get_or}
-use Rattle.wal.proofs.Histories.{size_of_first, first_at_base}
-use Rattle.wal.specs.Records.{History, LogRecord, history, last_lsn, ◌▸◌, first}
-use Rattle.wal.specs.Meaning.{cell_of}
-use Rattle.wal.specs.Store.{NamesPages}
+use Rattle.log_laws.proofs.Histories.{size_of_first, first_at_base}
+use Rattle.log_laws.specs.Records.{History, LogRecord, history, last_lsn, ◌▸◌, first}
+use Rattle.log_laws.specs.Meaning.{cell_of}
+use Rattle.log_laws.specs.Store.{NamesPages}
 use Rattle.audit.specs.Pages.{page_lsn}
 use Rattle.audit.specs.Dirty.{KeepsMissing, missing_after}
 use Rattle.audit.proofs.Noting.{page_below}

@@ -1,4 +1,4 @@
-use Rattle.wal.specs.Records.{history, first}
+use Rattle.log_laws.specs.Records.{history, first}
 use Rattle.audit.specs.Dirty.{KeepsMissing}
 use Rattle.audit.proofs.dirty.missing_in.Given as goal
 

@@ -1,5 +1,5 @@
 use Rattle.std.proofs.Common.{◌≡◌, ◌+◌, ◌-◌, ◌<◌, ℕ, suc, List, ◌∷◌, Option, Some, cond, length, drop, get_or, sym, ap, ◌∙◌, arith, eqb, drop-cons}
-use Rattle.wal.specs.Redo.{rec_lsn_of}
+use Rattle.log_laws.specs.Redo.{rec_lsn_of}
 use Rattle.audit.proofs.Passing.{written_back}
 use Rattle.audit.proofs.dirty.rec_lsns_in.Goals as goal
 

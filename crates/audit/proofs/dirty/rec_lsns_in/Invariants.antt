@@ -1,5 +1,5 @@
 use Rattle.std.proofs.Common.{◌≡◌, ◌<◌, ◌-◌, ℕ, Option, length, drop, get_or}
-use Rattle.wal.specs.Redo.{rec_lsn_of}
+use Rattle.log_laws.specs.Redo.{rec_lsn_of}
 use Rattle.audit.proofs.dirty.rec_lsns_in.Given as goal
 
 abbrev pub invariant-loop-behind : goal.invariant-loop-behind

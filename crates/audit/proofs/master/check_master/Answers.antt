@@ -1,7 +1,7 @@
 use Rattle.std.proofs.Common.{◌∙◌, arith, sym, ap}
 use Rattle.std.specs.Prelude.{option_map}
-use Rattle.wal.specs.Records.{history}
-use Rattle.wal.proofs.Checkpoints.{checkpoint_within, checkpoint_above}
+use Rattle.log_laws.specs.Records.{history}
+use Rattle.log_laws.proofs.Checkpoints.{checkpoint_within, checkpoint_above}
 use Rattle.audit.proofs.master.check_master.Goals as goal
 
 pub check_dirty-requires-clause-to : goal.check_dirty-requires-clause-to

@@ -1,8 +1,8 @@
 use Rattle.std.proofs.Common.{refl, arith}
 use Rattle.std.proofs.lemmas.Bool.{iff_false}
-use Rattle.wal.specs.Records.{history}
-use Rattle.wal.specs.Pages.{base_pages}
-use Rattle.wal.proofs.Histories.{size_of_log}
+use Rattle.log_laws.specs.Records.{history}
+use Rattle.log_laws.specs.Pages.{base_pages}
+use Rattle.log_laws.proofs.Histories.{size_of_log}
 use Rattle.audit.proofs.PageImages.{left_slots, slots_left}
 use Rattle.audit.proofs.pages.check_page.Goals as goal
 

@@ -3,8 +3,8 @@ use Rattle.std.specs.Prelude.{All}
 use Rattle.std.proofs.lemmas.List.{take_all}
 use Rattle.std.proofs.lemmas.List.Elements.{All-more}
 use Rattle.page.specs.declared.page.Page.{Page}
-use Rattle.wal.specs.Records.{History, history}
-use Rattle.wal.specs.Pages.{PageLaw, base_pages}
+use Rattle.log_laws.specs.Records.{History, history}
+use Rattle.log_laws.specs.Pages.{PageLaw, base_pages}
 use Rattle.audit.specs.Cells.{KeepsWriters}
 use Rattle.audit.specs.Pages.{log_at}
 use Rattle.audit.proofs.PageImages.{keeps_page}

@@ -1,7 +1,7 @@
 use Rattle.std.proofs.Common.{take}
 use Rattle.std.specs.Prelude.{All}
-use Rattle.wal.specs.Records.{history}
-use Rattle.wal.specs.Pages.{PageLaw, base_pages}
+use Rattle.log_laws.specs.Records.{history}
+use Rattle.log_laws.specs.Pages.{PageLaw, base_pages}
 use Rattle.audit.proofs.pages.check_pages.Given as goal
 
 abbrev pub invariant-loop-page : goal.invariant-loop-page

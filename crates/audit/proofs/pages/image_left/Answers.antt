@@ -1,8 +1,8 @@
 use Rattle.std.proofs.Common.{◌≡◌, ◌<◌, ◌≤◌, ◌+◌, ◌-◌, ℕ, Option, Some, sym, ap, ◌∙◌, inl, inr, arith}
 use Rattle.page.specs.Image.{Image}
-use Rattle.wal.specs.Records.{LogRecord, history, record_at, base_lsn, last_lsn}
-use Rattle.wal.specs.Meaning.{image_in}
-use Rattle.wal.proofs.Histories.{record_none, behind}
+use Rattle.log_laws.specs.Records.{LogRecord, history, record_at, base_lsn, last_lsn}
+use Rattle.log_laws.specs.Meaning.{image_in}
+use Rattle.log_laws.proofs.Histories.{record_none, behind}
 use Rattle.audit.specs.Cells.{image_or}
 use Rattle.audit.proofs.pages.image_left.Goals.{then-writer-base-via-then-writer-base, then-writer-base-via-else-writer-base+then-writer-last}
 use Rattle.audit.proofs.pages.image_left.Goals as goal

@@ -1,7 +1,7 @@
-use Rattle.wal.specs.Pages.{base_pages}
+use Rattle.log_laws.specs.Pages.{base_pages}
 use Rattle.audit.specs.Cells.{image_or}
 use Rattle.std.proofs.Common.{◌≡◌, ◌<◌, ◌+◌, ◌*◌, ℕ, None, get_or}
-use Rattle.wal.specs.Records.{history, record_at}
+use Rattle.log_laws.specs.Records.{history, record_at}
 use Rattle.page.specs.declared.profile.TheConstants.{SLOTS}
 use Rattle.audit.proofs.pages.slots_are_left.Given as goal
 

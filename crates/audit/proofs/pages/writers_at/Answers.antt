@@ -1,10 +1,10 @@
 use Rattle.std.proofs.lemmas.Bool.{cases_lt}
 use Rattle.std.proofs.lemmas.List.{get_or-replicate, length-replicate}
 use Rattle.std.proofs.Common.{◌*◌, ◌≡◌, ◌≤◌, ◌+◌, ◌++◌, [], take, drop, length, sym, ap, subst, ◌∙◌, arith, inl, inr, List, ℕ, get_or}
-use Rattle.wal.proofs.Histories.{size_of_first, first_at_base}
-use Rattle.wal.specs.Records.{History, LogRecord, history, last_lsn, ◌▸◌, first}
-use Rattle.wal.specs.Meaning.{cell_of}
-use Rattle.wal.specs.Store.{NamesPages}
+use Rattle.log_laws.proofs.Histories.{size_of_first, first_at_base}
+use Rattle.log_laws.specs.Records.{History, LogRecord, history, last_lsn, ◌▸◌, first}
+use Rattle.log_laws.specs.Meaning.{cell_of}
+use Rattle.log_laws.specs.Store.{NamesPages}
 use Rattle.audit.specs.Cells.{KeepsWriters}
 use Rattle.audit.specs.Pages.{log_at, page_lsn, writers_after}
 use Rattle.audit.proofs.Noting.{page_below, cell_below}

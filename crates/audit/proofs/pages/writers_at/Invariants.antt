@@ -1,5 +1,5 @@
 use Rattle.std.proofs.Common.{length}
-use Rattle.wal.specs.Records.{history, first}
+use Rattle.log_laws.specs.Records.{history, first}
 use Rattle.audit.specs.Cells.{KeepsWriters}
 use Rattle.audit.specs.Pages.{log_at}
 use Rattle.audit.proofs.pages.writers_at.Given as goal

@@ -1,6 +1,6 @@
 use Rattle.std.proofs.Common.{◌≡◌, ◌+◌, sym, subst, arith, length}
-use Rattle.wal.proofs.Histories.{size_of_first}
-use Rattle.wal.specs.Records.{History, history, last_lsn, first}
+use Rattle.log_laws.proofs.Histories.{size_of_first}
+use Rattle.log_laws.specs.Records.{History, history, last_lsn, first}
 use Rattle.wal.specs.Content.{shown}
 use Rattle.audit.specs.Passing.{IsAuditStateOf}
 use Rattle.audit.proofs.Noting.{has_cell}

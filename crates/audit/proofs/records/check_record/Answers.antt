@@ -1,7 +1,7 @@
 use Rattle.std.proofs.Common.{List, sym, subst, arith}
 use Rattle.std.proofs.lemmas.Bool.{iff_false}
 use Rattle.wal.specs.Content.{shown}
-use Rattle.wal.specs.Tail.{tx_of}
+use Rattle.log_laws.specs.Tail.{tx_of}
 use Rattle.audit.specs.Standings.{standing_in}
 use Rattle.audit.specs.declared.cell.Cell.{Cell}
 use Rattle.audit.specs.Cells.{KeepsCells, cell_in}

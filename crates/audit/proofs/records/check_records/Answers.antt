@@ -1,9 +1,9 @@
 use Rattle.std.proofs.Common.{Bool, ◌≡◌, sym, subst, arith}
 use Rattle.std.specs.Prelude.{IfSome, IsTrue, ◌↔◌}
-use Rattle.wal.proofs.Histories.{first_at_base, first_all}
-use Rattle.wal.specs.Records.{History, start, history, first}
-use Rattle.wal.specs.Checkpoint.{true_table}
-use Rattle.wal.specs.Pages.{base_pages}
+use Rattle.log_laws.proofs.Histories.{first_at_base, first_all}
+use Rattle.log_laws.specs.Records.{History, start, history, first}
+use Rattle.log_laws.specs.Checkpoint.{true_table}
+use Rattle.log_laws.specs.Pages.{base_pages}
 use Rattle.audit.specs.FirstFault.{AreSound}
 use Rattle.audit.specs.Statuses.{IsTop}
 use Rattle.audit.specs.Standings.{newest_of, standing_in}

@@ -1,8 +1,8 @@
 use Rattle.std.proofs.Common.{◌≡◌, ◌≤◌}
 use Rattle.std.specs.Prelude.{IfSome, IsTrue, ◌↔◌}
-use Rattle.wal.specs.Records.{history, first}
-use Rattle.wal.specs.Checkpoint.{true_table}
-use Rattle.wal.specs.Pages.{base_pages}
+use Rattle.log_laws.specs.Records.{history, first}
+use Rattle.log_laws.specs.Checkpoint.{true_table}
+use Rattle.log_laws.specs.Pages.{base_pages}
 use Rattle.audit.specs.FirstFault.{AreSound}
 use Rattle.audit.specs.Passing.{IsAuditStateOf}
 use Rattle.audit.proofs.records.check_records.Given as goal

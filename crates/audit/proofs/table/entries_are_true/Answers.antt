@@ -1,7 +1,7 @@
 use Rattle.std.proofs.Common.{get_or, sym, ap, subst, ◌∙◌, inl, inr, refl, arith}
 use Rattle.std.proofs.lemmas.Bool.{iff_false, cases_eq, false≢true}
 use Rattle.wal.specs.Content.{entry_of}
-use Rattle.audit.specs.Checkpoints.{IsTrueEntry}
+use Rattle.log_laws.specs.Checkpoint.{IsTrueEntry}
 use Rattle.audit.proofs.table.entries_are_true.Goals as goal
 
 pub returns-then-not-is_true_entry : goal.returns-then-not-is_true_entry

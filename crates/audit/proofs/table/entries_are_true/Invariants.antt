@@ -1,7 +1,7 @@
 use Rattle.std.proofs.Common.{ℕ, List, ◌<◌, get_or}
-use Rattle.wal.specs.Records.{History, TableEntry}
+use Rattle.log_laws.specs.Records.{History, TableEntry}
 use Rattle.audit.specs.Standings.{IsStandingOf, standing_in}
-use Rattle.audit.specs.Checkpoints.{IsTrueEntry}
+use Rattle.log_laws.specs.Checkpoint.{IsTrueEntry}
 use Rattle.audit.proofs.table.entries_are_true.Given as goal
 
 abbrev pub invariant-loop-place : goal.invariant-loop-place

@@ -1,5 +1,5 @@
 use Rattle.std.proofs.lemmas.Bool.{iff_false, false≢true}
-use Rattle.audit.proofs.TrueTable.{table_is, true_entries, true_lists}
+use Rattle.log_laws.proofs.TrueTable.{table_is, true_entries, true_lists}
 use Rattle.audit.proofs.table.is_true_table.Goals as goal
 
 pub returns-then-not-entries_are_true-clause-ok : goal.returns-then-not-entries_are_true-clause-ok

@@ -3,7 +3,7 @@ use Rattle.std.proofs.lemmas.Option.{slice_get-get_or, slice_get_within, get_or_
 use Rattle.std.proofs.lemmas.Bool.{or_cases, or_left, or_right, cases_eq, eq-eqb, eqb-true}
 use Rattle.std.specs.Ordering.{nat_cmp}
 use Rattle.std.specs.BTreeSet.{contains}
-use Rattle.wal.specs.Records.{TableEntry}
+use Rattle.log_laws.specs.Records.{TableEntry}
 use Rattle.wal.specs.Content.{entry_of}
 use Rattle.audit.proofs.table.listed_in.Goals as goal
 

@@ -1,8 +1,8 @@
 use Rattle.std.proofs.Common.{ℕ, ◌≡◌, ◌<◌, true, get_or}
 use Rattle.std.specs.Ordering.{nat_cmp}
 use Rattle.std.specs.BTreeSet.{contains}
-use Rattle.wal.specs.Records.{TableEntry}
-use Rattle.audit.specs.Checkpoints.{Lists}
+use Rattle.log_laws.specs.Records.{TableEntry}
+use Rattle.log_laws.specs.Checkpoint.{Lists}
 use Rattle.audit.proofs.table.listed_in.Given as goal
 
 abbrev pub invariant-loop-place : goal.invariant-loop-place

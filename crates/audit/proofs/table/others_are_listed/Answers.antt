@@ -11,8 +11,8 @@ use Rattle.std.specs.Ordering.{nat_cmp, is_eq}
 use Rattle.std.specs.BTreeSet.{contains}
 use Rattle.std.specs.Map.{lookup}
 use Rattle.std.specs.Map.Iter.{deref_pair}
-use Rattle.wal.specs.Records.{History}
-use Rattle.wal.specs.Meaning.{is_unfinished}
+use Rattle.log_laws.specs.Records.{History}
+use Rattle.log_laws.specs.Meaning.{is_unfinished}
 use Rattle.wal.proofs.Entries.{is_eq-nat_cmp}
 use Rattle.audit.specs.declared.status.Status.{Status}
 use Rattle.audit.proofs.table.others_are_listed.Goals as goal

@@ -3,8 +3,8 @@ use Rattle.std.specs.Prelude.{All}
 use Rattle.std.specs.Ordering.{nat_cmp}
 use Rattle.std.specs.BTreeSet.{contains}
 use Rattle.std.specs.Map.Iter.{deref_pair}
-use Rattle.wal.specs.Records.{History}
-use Rattle.wal.specs.Meaning.{is_unfinished}
+use Rattle.log_laws.specs.Records.{History}
+use Rattle.log_laws.specs.Meaning.{is_unfinished}
 use Rattle.audit.specs.Standings.{IsStandingOf, standing_in}
 use Rattle.audit.proofs.table.others_are_listed.Given as goal
 

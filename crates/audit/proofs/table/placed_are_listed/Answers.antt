@@ -3,7 +3,7 @@ use Rattle.std.proofs.lemmas.Bool.{cases_eq, iff_false, false≢true}
 use Rattle.std.proofs.lemmas.Option.{none-some, same_Some}
 use Rattle.std.specs.Ordering.{nat_cmp}
 use Rattle.std.specs.BTreeSet.{contains}
-use Rattle.wal.specs.Meaning.{is_unfinished}
+use Rattle.log_laws.specs.Meaning.{is_unfinished}
 use Rattle.audit.specs.declared.status.Status.{Status}
 use Rattle.audit.proofs.table.placed_are_listed.Goals.{in-Some+else-not-is_listed, in_default}
 use Rattle.audit.proofs.table.placed_are_listed.Goals as goal

@@ -1,8 +1,8 @@
 use Rattle.std.proofs.Common.{ℕ, List, ◌≡◌, ◌<◌, true, Some, None, get_or}
 use Rattle.std.specs.Ordering.{nat_cmp}
 use Rattle.std.specs.BTreeSet.{contains}
-use Rattle.wal.specs.Records.{History}
-use Rattle.wal.specs.Meaning.{is_unfinished}
+use Rattle.log_laws.specs.Records.{History}
+use Rattle.log_laws.specs.Meaning.{is_unfinished}
 use Rattle.audit.specs.declared.status.Status.{Status}
 use Rattle.audit.specs.Standings.{IsStandingOf, standing_in}
 use Rattle.audit.proofs.table.placed_are_listed.Given as goal

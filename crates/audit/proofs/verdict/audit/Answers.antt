@@ -1,4 +1,4 @@
-use Rattle.wal.specs.Meaning.{no_base}
+use Rattle.log_laws.specs.Meaning.{no_base}
 use Rattle.audit.proofs.Kept.{lawful_kept}
 use Rattle.audit.proofs.verdict.audit.Goals as goal
 

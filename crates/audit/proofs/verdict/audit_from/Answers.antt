@@ -2,7 +2,7 @@ use Rattle.std.proofs.Common.{◌≡◌, ◌∙◌, List, ap, subst}
 use Rattle.std.specs.Prelude.{IfErr}
 use Rattle.page.specs.declared.page.Page.{Page}
 use Rattle.page.specs.Store.{StoreContent}
-use Rattle.wal.specs.Pages.{base_pages}
+use Rattle.log_laws.specs.Pages.{base_pages}
 use Rattle.audit.specs.FirstFault.{FirstFault}
 use Rattle.audit.proofs.Over.{over_kept}
 use Rattle.audit.proofs.verdict.audit_from.Goals as goal

@@ -2,10 +2,10 @@ use Rattle.std.proofs.Common.{◌≡◌, ◌<◌, ◌≤◌, ℕ, List, Option, 
 use Rattle.std.specs.Prelude.{IfSome, option_map}
 use Rattle.wal.specs.declared.view.TransactionTable.{TransactionTable}
 use Rattle.wal.specs.declared.view.DirtyTable.{DirtyTable}
-use Rattle.wal.specs.Records.{TableEntry, CheckpointEnd, LogContent, tx_in, history, base_lsn, last_lsn}
-use Rattle.wal.specs.Checkpoint.{checkpoint_at}
-use Rattle.wal.specs.Spelling.{Fits, IsRising}
-use Rattle.wal.proofs.Checkpoints.{checkpoint_within, checkpoint_above}
+use Rattle.log_laws.specs.Records.{TableEntry, CheckpointEnd, LogContent, tx_in, history, base_lsn, last_lsn}
+use Rattle.log_laws.specs.Checkpoint.{checkpoint_at, IsRising}
+use Rattle.wal.specs.Spelling.{Fits}
+use Rattle.log_laws.proofs.Checkpoints.{checkpoint_within, checkpoint_above}
 use Rattle.audit.proofs.verdict.first_fault.Goals as goal
 
 -- if the tables of a checkpoint are borrowed, its begin record is in the log

@@ -1,6 +1,6 @@
 use Rattle.std.proofs.Common.{◌+◌, ◌∷◌, [], drop, arith}
 use Rattle.page.proofs.BigEndian.{AreBytes}
-use Rattle.wal.specs.Records.{◌⧺◌}
+use Rattle.log_laws.specs.Records.{◌⧺◌}
 use Rattle.wal.specs.Frames.{next_at}
 use Rattle.wal.proofs.NextFrame.{sized}
 use Rattle.wal.proofs.Stretches.{frame_takes}

@@ -1,5 +1,5 @@
 use Rattle.std.specs.Prelude.{◌-◌, length}
-use Rattle.wal.specs.Records.{LogContent}
+use Rattle.log_laws.specs.Records.{LogContent}
 use Rattle.pieces.specs.Pieces.{IsMark}
 use Rattle.cursor.proofs.ending.last_mark.Given as goal
 

@@ -1,6 +1,6 @@
 use Rattle.std.proofs.Common.{◌+◌, ◌∷◌, [], Ok, Option, ℕ, drop, sym, ap, ◌∙◌, arith}
 use Rattle.page.proofs.BigEndian.{AreBytes, AreBytes-drop}
-use Rattle.wal.specs.Records.{◌⧺◌}
+use Rattle.log_laws.specs.Records.{◌⧺◌}
 use Rattle.wal.specs.Frames.{next_at}
 use Rattle.wal.proofs.NextFrame.{sized, unsized, faulty}
 use Rattle.wal.proofs.Stretches.{frame_takes}

@@ -6,7 +6,7 @@ use Rattle.wal.proofs.NextFrame.{unsized, faulty}
 use Rattle.wal.proofs.Stretches.{frame_takes}
 use Rattle.wal.proofs.Whole.{next_fault, none_torn}
 use Rattle.wal.specs.Content.{shown}
-use Rattle.wal.specs.Records.{◌⧺◌}
+use Rattle.log_laws.specs.Records.{◌⧺◌}
 use Rattle.pieces.specs.Pieces.{IsMark}
 use Rattle.cursor.proofs.Marks.{moves, next_fits, reads_to_end}
 use Rattle.cursor.proofs.reading.next_record.Goals as goal

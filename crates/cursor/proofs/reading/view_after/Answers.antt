@@ -2,7 +2,7 @@ use Rattle.std.proofs.Common.{◌≡◌, ◌+◌, ◌-◌, ℕ, List, Ok, Some, 
 use Rattle.std.specs.Prelude.{is_some, option_map}
 use Rattle.std.proofs.lemmas.Option.{same_Some}
 use Rattle.page.proofs.BigEndian.{AreBytes, AreBytes-drop}
-use Rattle.wal.specs.Records.{LogRecord}
+use Rattle.log_laws.specs.Records.{LogRecord}
 use Rattle.wal.specs.Spelling.{Fits}
 use Rattle.wal.specs.Content.{shown}
 use Rattle.wal.specs.Frames.{next_at}

@@ -1,7 +1,7 @@
 use Rattle.std.proofs.Common.{ℕ, ◌≡◌, ◌∙◌, ap, sym, subst, take, Some}
 use Rattle.std.proofs.lemmas.Result.{on_ok_weaker}
 use Rattle.std.specs.Io.KnownBytes.{Appends}
-use Rattle.wal.specs.Records.{LogContent}
+use Rattle.log_laws.specs.Records.{LogContent}
 use Rattle.wal.specs.Reads.{Reads}
 use Rattle.dump.specs.LogLines.{ListsFront, fault_at, log_lines}
 use Rattle.dump.proofs.Fronts.{front, given_fault, given_log}

@@ -3,8 +3,8 @@ use Rattle.std.proofs.lemmas.Result.{err_from_is_err_and, on_ok_weaker, IfErr-we
 use Rattle.std.proofs.KnownBytes.{Appends-kept, Appends-trans}
 use Rattle.std.specs.Io.KnownBytes.{Appends, Keeps}
 use Rattle.wal.specs.Headers.{header_bytes}
-use Rattle.wal.specs.Records.{history, first, last_lsn}
-use Rattle.wal.proofs.Histories.{first_all}
+use Rattle.log_laws.specs.Records.{history, first, last_lsn}
+use Rattle.log_laws.proofs.Histories.{first_all}
 use Rattle.dump.specs.LogLines.{PrintsBeginning, log_line, place_behind, record_lines, torn_line}
 use Rattle.dump.proofs.Memory.{if_memory_weaker}
 use Rattle.dump.proofs.Places.{place_behind_all}

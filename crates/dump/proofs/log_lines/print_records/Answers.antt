@@ -2,8 +2,8 @@ use Rattle.std.proofs.Common.{ℕ, suc, ◌≡◌, ◌+◌, ◌++◌, ◌∙◌,
 use Rattle.std.proofs.KnownBytes.{Appends-kept, Appends-nil, Appends-trans}
 use Rattle.std.specs.Io.KnownBytes.{Appends, Keeps}
 use Rattle.wal.specs.Content.{shown}
-use Rattle.wal.specs.Records.{history, first, last_lsn}
-use Rattle.wal.proofs.Histories.{first_all, first_at_base, size_of_first}
+use Rattle.log_laws.specs.Records.{history, first, last_lsn}
+use Rattle.log_laws.proofs.Histories.{first_all, first_at_base, size_of_first}
 use Rattle.dump.specs.LogLines.{place_behind, record_lines, line_if_asked}
 use Rattle.std.proofs.lemmas.Result.{err_from_is_err_and}
 use Rattle.dump.proofs.Memory.{if_memory_weaker}

@@ -1,6 +1,6 @@
 use Rattle.std.proofs.Common.{◌≡◌}
 use Rattle.std.specs.Io.KnownBytes.{Appends}
-use Rattle.wal.specs.Records.{history, first}
+use Rattle.log_laws.specs.Records.{history, first}
 use Rattle.dump.specs.LogLines.{place_behind, record_lines}
 use Rattle.dump.proofs.log_lines.print_records.Given as goal
 

@@ -1,6 +1,6 @@
 use Rattle.std.proofs.Common.{◌≡◌, ◌+◌, ◌*◌, ℕ, List, [], ◌∷◌, ◌++◌, length, refl, subst, arith, length-append, append_assoc}
 use Rattle.std.specs.Int.{w32, w64, to_be_bytes}
-use Rattle.wal.specs.Records.{TableEntry, CheckpointBegin, CheckpointEnd}
+use Rattle.log_laws.specs.Records.{TableEntry, CheckpointBegin, CheckpointEnd}
 use Rattle.wal.specs.Spelling.{body, frame}
 use Rattle.journal.specs.Listed.{entries_listed, dirty_listed}
 use Rattle.journal.specs.Writing.{Begins}

@@ -1,6 +1,6 @@
 use Rattle.std.proofs.Common.{◌≡◌, ◌-◌, ℕ, List, [], ◌∷◌, ◌++◌, length, refl, subst, arith}
 use Rattle.std.specs.Int.{w32, w64, to_be_bytes}
-use Rattle.wal.specs.Records.{CompensationRecord, LogRecord, Compensation}
+use Rattle.log_laws.specs.Records.{CompensationRecord, LogRecord, Compensation}
 use Rattle.wal.specs.Spelling.{plain, body}
 use Rattle.journal.specs.Arrays.{image_of}
 use Rattle.journal.specs.Writing.{Begins}

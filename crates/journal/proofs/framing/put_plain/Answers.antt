@@ -1,6 +1,6 @@
 use Rattle.std.proofs.Common.{ℕ, List, [], ◌∷◌, ◌++◌, length, refl, ap, subst}
 use Rattle.std.specs.Int.{w32, w64, to_be_bytes}
-use Rattle.wal.specs.Records.{PlainRecord}
+use Rattle.log_laws.specs.Records.{PlainRecord}
 use Rattle.wal.specs.Spelling.{plain}
 use Rattle.journal.specs.Writing.{Begins}
 use Rattle.journal.proofs.Written.{plain_is}

@@ -3,9 +3,9 @@ use Rattle.page.specs.declared.profile.TheConstants.{SLOTS}
 use Rattle.std.specs.Prelude.{All}
 use Rattle.page.specs.declared.page.Page.{Page}
 use Rattle.page.specs.Store.{StoreContent}
-use Rattle.wal.specs.Records.{lsn_before}
+use Rattle.log_laws.specs.Records.{lsn_before}
 use Rattle.wal.specs.Headers.{FitsStart}
-use Rattle.wal.specs.Pages.{base_pages}
+use Rattle.log_laws.specs.Pages.{base_pages}
 use Rattle.journal.specs.declared.entries.Head.{Head}
 use Rattle.journal.specs.Runs.{opened, empty_log, new_run}
 use Rattle.journal.specs.PageStates.{first_page_state}

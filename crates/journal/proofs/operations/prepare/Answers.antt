@@ -1,8 +1,8 @@
 use Rattle.std.proofs.Common.{◌≡◌, true, map, ◌<◌, ◌+◌, ◌*◌, ◌^◌, ℕ, List, length, get_or, take, refl, sym, ap, subst, ◌∙◌, arith}
 use Rattle.std.proofs.lemmas.List.{get_or-take, length-take}
 use Rattle.std.proofs.lemmas.Result.{err_from_is_err_and}
-use Rattle.wal.specs.Records.{Prepare}
-use Rattle.wal.specs.Meaning.{last_of}
+use Rattle.log_laws.specs.Records.{Prepare}
+use Rattle.log_laws.specs.Meaning.{last_of}
 use Rattle.wal.specs.Spelling.{Fits}
 use Rattle.journal.specs.declared.entries.TransactionEntry.{TransactionEntry}
 use Rattle.journal.specs.declared.table.Need.TheVariants.{Working}

@@ -1,7 +1,7 @@
 use Rattle.std.proofs.Common.{◌≡◌, true, map, ◌<◌, ◌+◌, ℕ, false, List, length, get_or, take, sym, ap, subst, ◌∙◌, arith}
 use Rattle.std.proofs.lemmas.Result.{err_from_is_err_and}
-use Rattle.wal.specs.Records.{CompensationRecord, Compensation, last_lsn}
-use Rattle.wal.specs.Meaning.{last_of}
+use Rattle.log_laws.specs.Records.{CompensationRecord, Compensation, last_lsn}
+use Rattle.log_laws.specs.Meaning.{last_of}
 use Rattle.wal.specs.Spelling.{Fits, frame}
 use Rattle.journal.specs.declared.entries.TransactionEntry.{TransactionEntry}
 use Rattle.journal.specs.declared.entries.PendingEntry.{PendingEntry}

@@ -1,8 +1,8 @@
 use Rattle.std.proofs.Common.{◌≡◌, true, map, ◌<◌, ◌+◌, ◌*◌, ◌^◌, ℕ, None, List, length, get_or, set, take, sym, ap, subst, ◌∙◌, arith, length-append}
 use Rattle.std.proofs.lemmas.Result.{err_from_is_err_and}
 use Rattle.page.specs.Image.{Image as Content}
-use Rattle.wal.specs.Records.{LogRecord, Update}
-use Rattle.wal.specs.Meaning.{last_of, replay}
+use Rattle.log_laws.specs.Records.{LogRecord, Update}
+use Rattle.log_laws.specs.Meaning.{last_of, replay}
 use Rattle.wal.specs.Spelling.{Fits, frame, image}
 use Rattle.journal.specs.declared.entries.TransactionEntry.{TransactionEntry}
 use Rattle.journal.specs.declared.entries.PendingEntry.{PendingEntry}

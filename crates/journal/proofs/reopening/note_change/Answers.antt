@@ -1,6 +1,6 @@
 use Rattle.std.proofs.Common.{ℕ, List, [], Option, set, map, sym, ap, ap₂, ◌∙◌}
 use Rattle.std.proofs.lemmas.List.{map-set}
-use Rattle.wal.specs.Meaning.{owner}
+use Rattle.log_laws.specs.Meaning.{owner}
 use Rattle.wal.specs.Content.{shown}
 use Rattle.journal.specs.declared.entries.PageEntry.{PageEntry}
 use Rattle.journal.specs.PageStates.{PageState, noted_change, writers_after}

@@ -1,14 +1,14 @@
 use Rattle.std.proofs.Common.{◌≡◌, ◌<◌, ◌≤◌, ◌+◌, ℕ, max, List, length, get_or, set, take, sym, ap, subst, ◌∙◌, arith, eq-eqb}
 use Rattle.std.proofs.lemmas.Result.{err_from_is_err_and}
 use Rattle.journal.proofs.Counting.{too_many}
-use Rattle.wal.specs.Records.{Abort, Prepare, ◌▸◌}
+use Rattle.log_laws.specs.Records.{Abort, Prepare, ◌▸◌}
 use Rattle.journal.specs.declared.entries.TransactionEntry.{TransactionEntry}
 use Rattle.journal.specs.Transactions.{AreTransactions, next_after}
 use Rattle.journal.specs.Arrays.{kept_of, in_state}
 use Rattle.journal.specs.Scan.{IsScan}
 use Rattle.std.proofs.Common.{false}
-use Rattle.wal.specs.Meaning.{finished}
-use Rattle.wal.specs.declared.record.State.TheVariants.{Aborting, Prepared}
+use Rattle.log_laws.specs.Meaning.{finished}
+use Rattle.log_laws.specs.declared.state.State.TheVariants.{Aborting, Prepared}
 use Rattle.journal.specs.Transactions.{Noted, HasChangedState}
 use Rattle.journal.proofs.Continued.{logged_abort, logged_prepare}
 use Rattle.journal.proofs.Scanned.{no_entry, turned_noted, scan_turns}

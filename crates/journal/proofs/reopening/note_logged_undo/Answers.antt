@@ -2,12 +2,12 @@ use Rattle.std.proofs.Common.{◌≡◌, ◌<◌, ◌≤◌, ℕ, min, List, len
 use Rattle.std.proofs.lemmas.List.{get_or-take}
 use Rattle.journal.specs.declared.entries.TransactionEntry.{TransactionEntry}
 use Rattle.std.proofs.lemmas.Result.{err_from_is_err_and}
-use Rattle.wal.specs.Records.{Compensation}
+use Rattle.log_laws.specs.Records.{Compensation}
 use Rattle.journal.proofs.Counting.{too_many}
 use Rattle.journal.specs.Arrays.{undone}
 use Rattle.std.proofs.Common.{false}
-use Rattle.wal.specs.Meaning.{finished, pending}
-use Rattle.wal.specs.Laws.{Compensates}
+use Rattle.log_laws.specs.Meaning.{finished, pending}
+use Rattle.log_laws.specs.Laws.{Compensates}
 use Rattle.journal.proofs.Scanned.{no_entry, no_update, scan_undoes, nothing_left}
 use Rattle.journal.proofs.reopening.note_logged_undo.Goals as goal
 

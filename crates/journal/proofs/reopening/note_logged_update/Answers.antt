@@ -1,12 +1,12 @@
 use Rattle.std.proofs.Common.{◌≡◌, ◌<◌, ◌≤◌, ◌+◌, ℕ, List, length, take, Some, refl, sym, ap, subst, arith}
 use Rattle.std.proofs.lemmas.Result.{err_from_is_err_and}
-use Rattle.wal.specs.Records.{Update, last_lsn}
+use Rattle.log_laws.specs.Records.{Update, last_lsn}
 use Rattle.journal.proofs.Counting.{too_many}
 use Rattle.journal.specs.declared.entries.TransactionEntry.{TransactionEntry}
 use Rattle.journal.specs.declared.entries.PendingEntry.{PendingEntry}
 use Rattle.journal.specs.Arrays.{IsTable}
 use Rattle.std.proofs.Common.{false}
-use Rattle.wal.specs.Meaning.{finished}
+use Rattle.log_laws.specs.Meaning.{finished}
 use Rattle.journal.proofs.Scanned.{no_entry, fs_table, scan_updates, room_refused}
 use Rattle.journal.proofs.reopening.note_logged_update.Goals as goal
 

@@ -1,6 +1,6 @@
 use Rattle.std.proofs.Common.{◌≡◌, ◌+◌, length, refl, sym, ap, subst, arith}
-use Rattle.wal.specs.Records.{UpdateRecord, CompensationRecord, PlainRecord, LogRecord, Update, Compensation, Abort, Prepare, Commit, End, CheckpointBegin, CheckpointEnd, ◌▸◌, last_lsn}
-use Rattle.wal.specs.Laws.{Obeys}
+use Rattle.log_laws.specs.Records.{UpdateRecord, CompensationRecord, PlainRecord, LogRecord, Update, Compensation, Abort, Prepare, Commit, End, CheckpointBegin, CheckpointEnd, ◌▸◌, last_lsn}
+use Rattle.log_laws.specs.Laws.{Obeys}
 use Rattle.wal.specs.Spelling.{Fits}
 use Rattle.wal.specs.Content.{shown}
 use Rattle.journal.specs.Transactions.{next_after}

@@ -2,8 +2,8 @@ use Rattle.std.proofs.Common.{◌≡◌, ◌≤◌, ◌+◌, ℕ, List, [], None
 use Rattle.std.proofs.lemmas.List.{length-take}
 use Rattle.page.specs.declared.page.Page.{Page}
 use Rattle.page.specs.Store.{StoreContent, AreNumbered}
-use Rattle.wal.specs.Records.{LogRecord, History, start, ◌▸◌, history, first, last_lsn, base_lsn}
-use Rattle.wal.specs.Laws.{IsLawful}
+use Rattle.log_laws.specs.Records.{LogRecord, History, start, ◌▸◌, history, first, last_lsn, base_lsn}
+use Rattle.log_laws.specs.Laws.{IsLawful}
 use Rattle.wal.specs.Content.{shown}
 use Rattle.journal.specs.declared.entries.Head.{Head}
 use Rattle.journal.specs.PageStates.{PageState, first_page_state, writers_after, HaveWriters, IsOneBehind, IsCurrentSoFar}
@@ -11,9 +11,9 @@ use Rattle.journal.specs.Opened.{unfinished_count}
 use Rattle.journal.specs.Arrays.{page_state_of, kept_of}
 use Rattle.journal.specs.Scan.{IsScan, NoteRefused}
 use Rattle.journal.specs.Runs.{opened}
-use Rattle.wal.specs.Meaning.{owner, change_of}
+use Rattle.log_laws.specs.Meaning.{owner, change_of}
 use Rattle.journal.specs.State.{Agrees, IsJournal}
-use Rattle.wal.proofs.Histories.{first_at_base, first_all, size_of_first}
+use Rattle.log_laws.proofs.Histories.{first_at_base, first_all, size_of_first}
 use Rattle.journal.proofs.Beginnings.{lawful_first}
 use Rattle.std.specs.Prelude.{All}
 use Rattle.std.proofs.lemmas.Result.{err_from_is_err_and}

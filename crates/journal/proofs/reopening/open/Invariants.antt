@@ -1,6 +1,6 @@
 use Rattle.std.proofs.Common.{◌≤◌, length, map}
-use Rattle.wal.specs.Records.{history, first}
-use Rattle.wal.specs.Meaning.{BasePages}
+use Rattle.log_laws.specs.Records.{history, first}
+use Rattle.log_laws.specs.Meaning.{BasePages}
 use Rattle.journal.specs.Runs.{MayOpen}
 use Rattle.journal.specs.PageStates.{HaveWriters}
 use Rattle.journal.specs.Arrays.{page_state_of}

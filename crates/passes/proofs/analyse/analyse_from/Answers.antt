@@ -1,6 +1,6 @@
 use Rattle.std.proofs.Common.{subst, refl, ◌∙◌, arith}
 use Rattle.std.proofs.lemmas.Result.{err_from_is_err_and}
-use Rattle.wal.specs.Records.{LogContent, history}
+use Rattle.log_laws.specs.Records.{LogContent, history}
 use Rattle.analysis.specs.Passing.{HasAnalysed}
 use Rattle.passes.proofs.Forward.{is_before, is_whole}
 use Rattle.passes.proofs.Reached.{still_told, keeps_on, keeps_same}

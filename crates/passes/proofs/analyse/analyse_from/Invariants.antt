@@ -1,6 +1,6 @@
 use Rattle.std.proofs.Common.{◌≡◌, ◌-◌, ◌≤◌, ℕ, List, length, Some, None}
 use Rattle.std.specs.Io.KnownBytes.{Keeps}
-use Rattle.wal.specs.Records.{LogContent, History, history}
+use Rattle.log_laws.specs.Records.{LogContent, History, history}
 use Rattle.wal.specs.declared.sizes.TheConstants.{LARGEST_BASE}
 use Rattle.analysis.specs.Passing.{HasAnalysed}
 use Rattle.analysis.specs.Tables.{entry_at}

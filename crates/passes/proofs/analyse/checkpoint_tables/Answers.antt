@@ -1,5 +1,5 @@
 use Rattle.std.proofs.lemmas.Result.{err_from_is_err_and}
-use Rattle.wal.specs.Records.{history}
+use Rattle.log_laws.specs.Records.{history}
 use Rattle.passes.proofs.Nexts.{tables_resource}
 use Rattle.passes.proofs.analyse.checkpoint_tables.Goals as goal
 

@@ -1,6 +1,6 @@
 use Rattle.std.proofs.Common.{◌≡◌, ◌-◌, ◌≤◌, ℕ, List, length, Some}
 use Rattle.std.specs.Io.KnownBytes.{Keeps}
-use Rattle.wal.specs.Records.{LogContent, history}
+use Rattle.log_laws.specs.Records.{LogContent, history}
 use Rattle.wal.specs.declared.sizes.TheConstants.{LARGEST_BASE}
 use Rattle.analysis.specs.Passing.{HasSeen}
 use Rattle.pieces.specs.Pieces.{IsMark}

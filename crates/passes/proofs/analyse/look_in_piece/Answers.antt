@@ -1,5 +1,5 @@
 use Rattle.std.proofs.Common.{subst}
-use Rattle.wal.specs.Records.{history, ◌⧺◌}
+use Rattle.log_laws.specs.Records.{history, ◌⧺◌}
 use Rattle.analysis.specs.Passing.{HasSeen}
 use Rattle.passes.proofs.Forward.{with_piece, goes_on_at}
 use Rattle.passes.proofs.analyse.look_in_piece.Goals as goal

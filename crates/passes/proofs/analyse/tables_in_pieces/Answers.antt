@@ -1,6 +1,6 @@
 use Rattle.std.proofs.Common.{◌+◌, ◌≡◌, ◌≤◌, ℕ, List, Some, subst, sym, ap, ◌∙◌}
 use Rattle.std.proofs.lemmas.Result.{err_from_is_err_and}
-use Rattle.wal.specs.Records.{LogContent, history, last_lsn, base_lsn}
+use Rattle.log_laws.specs.Records.{LogContent, history, last_lsn, base_lsn}
 use Rattle.wal.specs.Reads.{Reads}
 use Rattle.analysis.specs.Passing.{HasAnalysed}
 use Rattle.pieces.specs.declared.mark.Mark.{Mark}

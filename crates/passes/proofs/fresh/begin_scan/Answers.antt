@@ -1,6 +1,6 @@
 use Rattle.std.proofs.Common.{ℕ, ◌+◌, List, [], ap, subst, refl}
 use Rattle.wal.specs.declared.record.Entry.{Entry}
-use Rattle.wal.specs.Redo.{rec_lsn_of}
+use Rattle.log_laws.specs.Redo.{rec_lsn_of}
 use Rattle.analysis.specs.Tables.{entry_at}
 use Rattle.redo.specs.Passing.{ListEach}
 use Rattle.passes.proofs.OneReading.{tallied_all_first}

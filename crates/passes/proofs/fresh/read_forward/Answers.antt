@@ -2,9 +2,9 @@ use Rattle.std.proofs.Common.{◌≡◌, ◌<◌, ◌-◌, ℕ, List, Some, leng
 use Rattle.std.proofs.lemmas.Result.{err_from_is_err_and}
 use Rattle.page.specs.declared.page.Page.{Page}
 use Rattle.page.specs.Store.{AreNumbered}
-use Rattle.wal.specs.Records.{LogContent, lsn_before, start, ◌▸▸◌, history, last_lsn, base_lsn}
+use Rattle.log_laws.specs.Records.{LogContent, lsn_before, start, ◌▸▸◌, history, last_lsn, base_lsn}
 use Rattle.wal.specs.Reads.{Reads}
-use Rattle.wal.proofs.Histories.{base_of_log}
+use Rattle.log_laws.proofs.Histories.{base_of_log}
 use Rattle.analysis.specs.Passing.{HasAnalysed}
 use Rattle.pieces.specs.declared.mark.Mark.{Mark}
 use Rattle.pieces.specs.Pieces.{IsMark}

@@ -1,6 +1,6 @@
 use Rattle.std.proofs.Common.{◌≡◌, refl, sym, subst, ◌∙◌, arith}
-use Rattle.wal.specs.Records.{history, last_lsn, base_lsn}
-use Rattle.wal.proofs.Histories.{base_within}
+use Rattle.log_laws.specs.Records.{history, last_lsn, base_lsn}
+use Rattle.log_laws.proofs.Histories.{base_within}
 use Rattle.analysis.proofs.Noted.{noted_none, noted_more, noted_all}
 use Rattle.passes.specs.Listing.{TalliedOrRefused}
 use Rattle.passes.proofs.fresh.scan_piece.Goals as goal

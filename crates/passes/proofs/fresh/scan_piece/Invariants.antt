@@ -1,6 +1,6 @@
 use Rattle.std.proofs.Common.{◌≡◌, ◌≤◌, List, length}
 use Rattle.page.specs.declared.page.Page.{Page}
-use Rattle.wal.specs.Records.{LogContent, history, base_lsn}
+use Rattle.log_laws.specs.Records.{LogContent, history, base_lsn}
 use Rattle.tables.specs.Pieces.{IsPieceOf}
 use Rattle.analysis.proofs.Noted.{HasNoted}
 use Rattle.passes.specs.Listing.{TalliedOrRefused}

@@ -1,5 +1,5 @@
 use Rattle.std.proofs.Common.{sym, subst}
-use Rattle.wal.specs.Records.{history, ◌⧺◌}
+use Rattle.log_laws.specs.Records.{history, ◌⧺◌}
 use Rattle.analysis.specs.Passing.{HasAnalysed}
 use Rattle.passes.specs.Listing.{TalliedOrRefused}
 use Rattle.passes.proofs.Forward.{with_piece, goes_on_at}

@@ -1,6 +1,6 @@
 use Rattle.std.proofs.Common.{◌<◌, ◌+◌, ◌∙◌, get_or, length, refl, ap, inl, inr, arith}
 use Rattle.std.proofs.lemmas.Result.{err_from_is_err_and}
-use Rattle.wal.specs.Records.{history}
+use Rattle.log_laws.specs.Records.{history}
 use Rattle.tables.specs.Tables.{losers_in}
 use Rattle.pieces.specs.declared.mark.Mark.{Mark}
 use Rattle.passes.proofs.Reached.{marked, keeps_same, still_told, keeps_on}

@@ -1,6 +1,6 @@
 use Rattle.std.proofs.Common.{◌≡◌, ◌≤◌, ℕ, List, length, Some}
 use Rattle.std.specs.Io.KnownBytes.{Keeps}
-use Rattle.wal.specs.Records.{LogContent, history, last_lsn}
+use Rattle.log_laws.specs.Records.{LogContent, history, last_lsn}
 use Rattle.wal.specs.Reads.{Reads}
 use Rattle.tables.specs.Tables.{losers_in}
 use Rattle.undo.specs.Wants.{WantUpTo, wants_in}

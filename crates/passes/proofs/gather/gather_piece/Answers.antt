@@ -1,5 +1,5 @@
 use Rattle.std.proofs.Common.{subst, arith}
-use Rattle.wal.specs.Records.{history}
+use Rattle.log_laws.specs.Records.{history}
 use Rattle.undo.specs.Wants.{WantUpTo, wants_in}
 use Rattle.passes.proofs.gather.gather_piece.Goals as goal
 

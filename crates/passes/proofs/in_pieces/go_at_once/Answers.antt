@@ -1,6 +1,6 @@
 use Rattle.std.proofs.Common.{◌≡◌, length, refl, sym, ap, ◌∙◌, subst}
 use Rattle.std.proofs.lemmas.Result.{err_from_is_err_and, IfOk-at_ok, IfErr-at_err}
-use Rattle.wal.specs.Records.{history, last_lsn}
+use Rattle.log_laws.specs.Records.{history, last_lsn}
 use Rattle.analysis.specs.Tables.{AreTablesOf}
 use Rattle.redo.specs.Redone.{RedoFault}
 use Rattle.restart.specs.Restart.{NoneAhead}

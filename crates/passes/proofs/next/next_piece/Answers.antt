@@ -1,7 +1,7 @@
 use Rattle.std.proofs.Common.{◌≡◌, ◌+◌, ◌-◌, ◌≤◌, ℕ, List, length, take, ap₂, sym, subst, ◌∙◌, inl, inr, arith, length-take}
 use Rattle.std.proofs.lemmas.Bool.{cases_lt}
 use Rattle.std.proofs.lemmas.Result.{err_from_is_err_and}
-use Rattle.wal.specs.Records.{◌⧺◌}
+use Rattle.log_laws.specs.Records.{◌⧺◌}
 use Rattle.pieces.specs.Pieces.{IsMark, piece_text, ContinuesLog}
 use Rattle.pieces.proofs.Beginnings.{pieces_belong}
 use Rattle.passes.proofs.Nexts.{no_more, room_takes}

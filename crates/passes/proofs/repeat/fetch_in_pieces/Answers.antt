@@ -2,7 +2,7 @@ use Rattle.std.proofs.Common.{◌≡◌, ◌+◌, ◌-◌, ◌≤◌, ◌<◌, �
 use Rattle.std.proofs.lemmas.Result.{err_from_is_err_and}
 use Rattle.std.proofs.lemmas.List.{take_all, drop-drop, get_or-drop, get_or_default, length-drop}
 use Rattle.std.proofs.lemmas.List.Elements.{All-drop}
-use Rattle.wal.specs.Records.{history, base_lsn}
+use Rattle.log_laws.specs.Records.{history, base_lsn}
 use Rattle.changes.proofs.Numbered.{stay_same, stay_more}
 use Rattle.redo.specs.declared.wanted.Wanted.{Wanted}
 use Rattle.redo.specs.Wanted.{IsWanted, ShowAllBut}

@@ -1,7 +1,7 @@
 use Rattle.std.proofs.Common.{◌-◌, ◌≡◌, ◌≤◌, ℕ, List, All, length, drop, Some}
 use Rattle.std.specs.Io.KnownBytes.{Keeps}
 use Rattle.page.specs.declared.page.Page.{Page}
-use Rattle.wal.specs.Records.{LogContent, history}
+use Rattle.log_laws.specs.Records.{LogContent, history}
 use Rattle.wal.specs.Reads.{Reads}
 use Rattle.changes.specs.Numbered.{StayNumbered}
 use Rattle.redo.specs.declared.tally.Tally.{Tally}

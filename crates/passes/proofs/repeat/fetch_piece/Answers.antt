@@ -1,7 +1,7 @@
 use Rattle.std.proofs.Common.{◌+◌, ◌-◌, length, subst, arith}
 use Rattle.std.proofs.lemmas.List.{get_or_default}
 use Rattle.std.proofs.lemmas.Result.{err_from_is_err_and}
-use Rattle.wal.specs.Records.{history}
+use Rattle.log_laws.specs.Records.{history}
 use Rattle.redo.specs.declared.wanted.Wanted.{Wanted}
 use Rattle.redo.proofs.LastRecords.{in_slot}
 use Rattle.passes.specs.Marks.{Reaches}

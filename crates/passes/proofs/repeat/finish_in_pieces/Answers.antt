@@ -1,7 +1,7 @@
 use Rattle.std.proofs.Common.{◌≡◌, All, drop, sym, subst, arith}
 use Rattle.std.proofs.lemmas.List.Elements.{Contains-get_or}
 use Rattle.std.proofs.lemmas.Result.{err_from_is_err_and}
-use Rattle.wal.specs.Records.{history}
+use Rattle.log_laws.specs.Records.{history}
 use Rattle.redo.specs.Wanted.{IsWanted, HoldAllBut, ShowAllBut}
 use Rattle.changes.proofs.Numbered.{stay_more}
 use Rattle.passes.proofs.repeat.finish_in_pieces.Goals as goal

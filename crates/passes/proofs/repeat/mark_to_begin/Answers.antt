@@ -1,5 +1,5 @@
 use Rattle.std.proofs.Common.{◌∙◌, get_or, ap, inl, inr, arith}
-use Rattle.wal.specs.Records.{history, base_lsn, last_lsn}
+use Rattle.log_laws.specs.Records.{history, base_lsn, last_lsn}
 use Rattle.pieces.specs.declared.mark.Mark.{Mark}
 use Rattle.passes.proofs.Reached.{marked, marked_last}
 use Rattle.passes.proofs.Redoing.{some_marks, mark_within, before_redo}

@@ -1,6 +1,6 @@
 use Rattle.std.proofs.Common.{◌≡◌, ◌≤◌, ◌∙◌, refl, sym, ap, subst, arith}
 use Rattle.std.proofs.lemmas.Result.{err_from_is_err_and}
-use Rattle.wal.specs.Records.{history, base_lsn, last_lsn}
+use Rattle.log_laws.specs.Records.{history, base_lsn, last_lsn}
 use Rattle.tables.specs.Tables.{TablesContent}
 use Rattle.redo.specs.Routes.{skipped}
 use Rattle.pieces.specs.declared.mark.Mark.{Mark}

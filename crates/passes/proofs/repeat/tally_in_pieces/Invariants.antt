@@ -1,6 +1,6 @@
 use Rattle.std.proofs.Common.{◌-◌, ◌≡◌, ◌≤◌, ℕ, List, length, Some}
 use Rattle.std.specs.Io.KnownBytes.{Keeps}
-use Rattle.wal.specs.Records.{LogContent}
+use Rattle.log_laws.specs.Records.{LogContent}
 use Rattle.wal.specs.Reads.{Reads}
 use Rattle.wal.specs.declared.sizes.TheConstants.{LARGEST_BASE}
 use Rattle.pieces.specs.Pieces.{IsMark}

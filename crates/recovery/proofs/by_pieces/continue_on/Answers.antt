@@ -1,5 +1,5 @@
 use Rattle.std.proofs.Common.{◌≡◌, ◌+◌, ◌^◌, ◌<◌, List, length, refl, sym, ap, ◌∙◌, subst, inl, inr, arith}
-use Rattle.wal.specs.Records.{history, last_lsn}
+use Rattle.log_laws.specs.Records.{history, last_lsn}
 use Rattle.wal.specs.Reads.{Reads}
 use Rattle.wal.proofs.Whole.{one_reading}
 use Rattle.page.specs.declared.fault.Fault.TheVariants.{ReadLog}

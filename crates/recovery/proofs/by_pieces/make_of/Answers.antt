@@ -2,7 +2,7 @@ use Rattle.std.proofs.Common.{sym, ap, subst}
 use Rattle.std.proofs.lemmas.Result.{err_from_is_err_and}
 use Rattle.page.specs.Store.{StoreContent, AreNumbered}
 use Rattle.page.specs.File.{store_text}
-use Rattle.wal.specs.Store.{Lawful}
+use Rattle.log_laws.specs.Store.{Lawful}
 use Rattle.recovery.specs.Recovery.{Recovers, Recovered}
 use Rattle.recovery.specs.ByPieces.{continued_log}
 use Rattle.recovery.proofs.ByPieces.{store_same}

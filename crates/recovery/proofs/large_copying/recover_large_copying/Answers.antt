@@ -3,7 +3,7 @@ use Rattle.std.proofs.lemmas.Result.{err_from_is_err_and}
 use Rattle.page.specs.declared.fault.Fault.TheVariants.{ReadLog, ReadStore, WriteLog}
 use Rattle.passes.proofs.Reached.{still_told}
 use Rattle.wal.specs.Reads.{Reads}
-use Rattle.wal.specs.Tail.{with_tail}
+use Rattle.log_laws.specs.Tail.{with_tail}
 use Rattle.recovery.specs.Large.{large_store}
 use Rattle.recovery.specs.Recovery.{Recovered}
 use Rattle.recovery.proofs.ByPieces.{of_log, by_device, ok_is_no_fault}

@@ -1,9 +1,9 @@
 use Rattle.std.proofs.Common.{◌≡◌, ◌<◌, ◌+◌, ◌++◌, [], ◌∷◌, List, length, get_or, take, sym, ap, ◌∙◌, arith}
 use Rattle.std.proofs.lemmas.List.{take_more, map_push, length-map, length-take}
-use Rattle.wal.specs.Records.{LogRecord, history, last_lsn}
+use Rattle.log_laws.specs.Records.{LogRecord, history, last_lsn}
 use Rattle.wal.specs.Reads.{spellings}
 use Rattle.wal.specs.Spelling.{frame}
-use Rattle.wal.proofs.Histories.{size_of_log, base_of_log}
+use Rattle.log_laws.proofs.Histories.{size_of_log, base_of_log}
 use Rattle.undo.specs.declared.appended.Appended.{Appended}
 use Rattle.undo.specs.declared.appended.Appended.TheVariants as brief
 use Rattle.undo.specs.Appended.{record_of, appended_records}

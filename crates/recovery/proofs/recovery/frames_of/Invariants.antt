@@ -1,5 +1,5 @@
 use Rattle.std.proofs.Common.{◌≡◌, ◌+◌, take}
-use Rattle.wal.specs.Records.{history, last_lsn}
+use Rattle.log_laws.specs.Records.{history, last_lsn}
 use Rattle.wal.specs.Reads.{spellings}
 use Rattle.undo.specs.Appended.{appended_records}
 use Rattle.recovery.proofs.recovery.frames_of.Given as goal

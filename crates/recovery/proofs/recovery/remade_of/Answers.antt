@@ -1,7 +1,7 @@
 use Rattle.std.proofs.Common.{◌≡◌, ◌+◌, ◌++◌, ◌-◌, ◌^◌, ◌<◌, List, arith, length, take, refl, sym, ap, ◌∙◌, subst}
 use Rattle.page.specs.Store.{StoreContent}
 use Rattle.page.specs.File.{store_text}
-use Rattle.wal.specs.Records.{history, last_lsn}
+use Rattle.log_laws.specs.Records.{history, last_lsn}
 use Rattle.undo.specs.declared.appended.Appended.{Appended}
 use Rattle.restart.specs.Outcome.{outcome_in}
 use Rattle.recovery.specs.Recovery.{Recovers, Recovered, appended_frames}

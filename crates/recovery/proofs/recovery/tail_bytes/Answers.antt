@@ -1,6 +1,6 @@
 use Rattle.std.proofs.Common.{◌≡◌, ◌<◌, ◌+◌, ◌++◌, [], ◌∷◌, List, length, min, get_or, take, refl, sym, ap, ◌∙◌, arith, length-append}
 use Rattle.std.proofs.lemmas.List.{take_more, take_all, map_push}
-use Rattle.wal.specs.Records.{LogRecord, history}
+use Rattle.log_laws.specs.Records.{LogRecord, history}
 use Rattle.wal.specs.Reads.{spellings}
 use Rattle.wal.specs.Spelling.{frame}
 use Rattle.undo.specs.declared.appended.Appended.{Appended}

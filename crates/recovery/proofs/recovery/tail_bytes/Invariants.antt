@@ -1,5 +1,5 @@
 use Rattle.std.proofs.Common.{ℕ, ◌≡◌, length, min, take}
-use Rattle.wal.specs.Records.{history}
+use Rattle.log_laws.specs.Records.{history}
 use Rattle.wal.specs.Reads.{spellings}
 use Rattle.undo.specs.Appended.{appended_records}
 use Rattle.recovery.proofs.recovery.tail_bytes.Given as goal

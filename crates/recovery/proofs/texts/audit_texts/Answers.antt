@@ -1,6 +1,6 @@
 use Rattle.std.proofs.Common.{◌≡◌, inr, ap}
 use Rattle.std.proofs.lemmas.Result.{err_from_is_err_and, IfErr-weaker, on_ok_weaker}
-use Rattle.wal.specs.Meaning.{no_base}
+use Rattle.log_laws.specs.Meaning.{no_base}
 use Rattle.audit.specs.FirstFault.{FirstFault}
 use Rattle.recovery.specs.Recovery.{Decoded}
 use Rattle.recovery.specs.Audit.{AuditFault}

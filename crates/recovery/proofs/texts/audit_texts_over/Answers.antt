@@ -1,6 +1,6 @@
 use Rattle.std.proofs.Common.{◌≡◌, inl, inr, ap, subst, sym}
 use Rattle.std.proofs.lemmas.Result.{err_from_is_err_and, IfErr-weaker, on_ok_weaker}
-use Rattle.wal.specs.Records.{LogContent}
+use Rattle.log_laws.specs.Records.{LogContent}
 use Rattle.page.specs.Store.{StoreContent}
 use Rattle.audit.specs.Base.{LawfulOver, FirstFaultOver}
 use Rattle.recovery.specs.Recovery.{Decoded}

@@ -1,8 +1,8 @@
 use Rattle.std.proofs.Common.{◌≡◌, ◌+◌, ◌≤◌, ◌<◌, None, replicate, length, get_or, set, drop, ap, ◌∙◌, subst, inl, inr, arith}
 use Rattle.std.proofs.lemmas.Bool.{cases_lt}
 use Rattle.std.proofs.lemmas.List.{get_or_default, get_or-drop, length-drop, drop_more}
-use Rattle.wal.specs.Records.{history, last_lsn, record_at}
-use Rattle.wal.specs.Meaning.{image_in}
+use Rattle.log_laws.specs.Records.{history, last_lsn, record_at}
+use Rattle.log_laws.specs.Meaning.{image_in}
 use Rattle.changes.specs.Changes.{page_put}
 use Rattle.page.specs.declared.page.Page.{Page}
 use Rattle.redo.specs.Parts.{image_at}

@@ -1,7 +1,7 @@
 use Rattle.std.proofs.Common.{None, get_or, set, ap, sym, ◌∙◌, inl, inr, arith}
 use Rattle.std.proofs.lemmas.Bool.{cases_eq}
 use Rattle.std.proofs.lemmas.List.{get_or-set_same, get_or-set_other, length-set}
-use Rattle.wal.specs.Records.{history, record_at}
+use Rattle.log_laws.specs.Records.{history, record_at}
 use Rattle.redo.proofs.finish.bodies.Goals as goal
 
 pub loop-slot-init : goal.loop-slot-init

@@ -1,5 +1,5 @@
 use Rattle.std.proofs.Common.{◌≡◌, ℕ, ◌<◌, None, length, get_or}
-use Rattle.wal.specs.Records.{history, record_at}
+use Rattle.log_laws.specs.Records.{history, record_at}
 use Rattle.page.specs.declared.profile.TheConstants.{SLOTS}
 use Rattle.redo.proofs.finish.bodies.Given as goal
 

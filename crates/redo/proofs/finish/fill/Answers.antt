@@ -2,8 +2,8 @@ use Rattle.std.proofs.Common.{ℕ, List, ◌≡◌, ◌<◌, ◌+◌, None, get_
 use Rattle.std.proofs.lemmas.Bool.{cases_eq}
 use Rattle.std.proofs.lemmas.List.{ext_get_or, get_or-set_same, get_or-set_other, length-set, get_or_default}
 use Rattle.page.specs.Image.{Image}
-use Rattle.wal.specs.Records.{History, history}
-use Rattle.wal.specs.Meaning.{image_in}
+use Rattle.log_laws.specs.Records.{History, history}
+use Rattle.log_laws.specs.Meaning.{image_in}
 use Rattle.redo.specs.Changes.{held_after, slots_after}
 use Rattle.redo.proofs.Tallies.{slot_after, slots_count, held_none, held_some}
 use Rattle.redo.proofs.finish.fill.Invariants.{AreFilled}

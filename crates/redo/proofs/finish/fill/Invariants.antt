@@ -1,6 +1,6 @@
 use Rattle.std.proofs.Common.{◌≡◌, ℕ, List, ◌<◌, ◌≤◌, None, length, get_or}
 use Rattle.page.specs.Image.{Image}
-use Rattle.wal.specs.Records.{History, history}
+use Rattle.log_laws.specs.Records.{History, history}
 use Rattle.redo.specs.Changes.{slots_after}
 use Rattle.page.specs.declared.profile.TheConstants.{SLOTS}
 use Rattle.redo.proofs.finish.fill.Given as goal

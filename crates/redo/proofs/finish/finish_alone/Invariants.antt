@@ -1,6 +1,6 @@
 use Rattle.std.proofs.Common.{◌≡◌, ℕ, ◌<◌, ◌≤◌, length, get_or}
 use Rattle.page.specs.declared.page.Page.{Page}
-use Rattle.wal.specs.Records.{history}
+use Rattle.log_laws.specs.Records.{history}
 use Rattle.redo.specs.Changes.{finished_page}
 use Rattle.redo.specs.declared.tally.Tally.{Tally}
 use Rattle.redo.proofs.finish.finish_alone.Given as goal

@@ -1,6 +1,6 @@
 use Rattle.std.proofs.Common.{◌≡◌, ℕ, ◌++◌, ◌∷◌, [], List, length, get_or, sym, ap, ◌∙◌, subst, arith, length-append}
 use Rattle.page.specs.Store.{StoreContent}
-use Rattle.wal.specs.Records.{base_lsn, history, start}
+use Rattle.log_laws.specs.Records.{base_lsn, history, start}
 use Rattle.redo.specs.declared.tally.Tally.{Tally}
 use Rattle.redo.specs.Inputs.{InputContent}
 use Rattle.redo.specs.Parts.{redo_page_in, image_at, resolved}

@@ -1,5 +1,5 @@
 use Rattle.std.proofs.Common.{◌≡◌, ℕ, ◌<◌, length, get_or}
-use Rattle.wal.specs.Records.{base_lsn, history, start}
+use Rattle.log_laws.specs.Records.{base_lsn, history, start}
 use Rattle.redo.specs.declared.tally.Tally.{Tally}
 use Rattle.redo.specs.Parts.{redo_page_in, image_at, resolved}
 use Rattle.redo.proofs.one_pass.begin_all.Given as goal

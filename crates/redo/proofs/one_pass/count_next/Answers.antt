@@ -1,6 +1,6 @@
 use Rattle.std.proofs.Common.{◌+◌, get_or, set, refl, sym, ap, ◌∙◌, subst, arith}
 use Rattle.std.proofs.lemmas.Option.{same_Some}
-use Rattle.wal.specs.Records.{history}
+use Rattle.log_laws.specs.Records.{history}
 use Rattle.wal.specs.Glances.{IsGlanceBehind, glance_of}
 use Rattle.redo.specs.Changes.{counted}
 use Rattle.redo.proofs.Replay.{page_of_cell}

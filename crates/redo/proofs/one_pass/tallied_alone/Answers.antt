@@ -1,8 +1,8 @@
 use Rattle.std.proofs.Common.{◌≡◌, ◌+◌, ◌≤◌, ◌<◌, All, List, length, sym, ap, subst, arith}
 use Rattle.std.proofs.lemmas.Result.{err_from_is_err_and}
 use Rattle.page.specs.Store.{StoreContent, AreNumbered}
-use Rattle.wal.specs.Records.{history, last_lsn, base_lsn}
-use Rattle.wal.proofs.Histories.{behind, base_within}
+use Rattle.log_laws.specs.Records.{history, last_lsn, base_lsn}
+use Rattle.log_laws.proofs.Histories.{behind, base_within}
 use Rattle.redo.specs.declared.tally.Tally.{Tally}
 use Rattle.redo.specs.Inputs.{InputContent, input_over}
 use Rattle.redo.specs.Routes.{ExistWithin, skipped_in}

@@ -1,5 +1,5 @@
 use Rattle.std.proofs.Common.{replicate, ap, sym, ◌∙◌}
-use Rattle.wal.specs.Records.{base_lsn, history}
+use Rattle.log_laws.specs.Records.{base_lsn, history}
 use Rattle.redo.specs.declared.tally.Tally.{Tally}
 use Rattle.redo.specs.Inputs.{input_over}
 use Rattle.redo.specs.Parts.{resolved}

@@ -1,7 +1,7 @@
 use Rattle.std.proofs.Common.{ℕ, ◌≡◌, length, map, sym, ap, subst, ◌∙◌, arith}
 use Rattle.std.proofs.lemmas.List.{take_all}
-use Rattle.wal.specs.Records.{start, history, base_lsn}
-use Rattle.wal.proofs.Histories.{first_none}
+use Rattle.log_laws.specs.Records.{start, history, base_lsn}
+use Rattle.log_laws.proofs.Histories.{first_none}
 use Rattle.redo.specs.Parts.{redo_page_in, image_at}
 use Rattle.redo.specs.Parting.{PartingContent, AreMembers}
 use Rattle.redo.proofs.part.begin_part.Goals as goal

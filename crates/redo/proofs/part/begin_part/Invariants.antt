@@ -1,5 +1,5 @@
 use Rattle.std.proofs.Common.{◌≡◌, map, take}
-use Rattle.wal.specs.Records.{start, base_lsn, history}
+use Rattle.log_laws.specs.Records.{start, base_lsn, history}
 use Rattle.redo.specs.Parts.{redo_page_in, image_at, resolved}
 use Rattle.redo.proofs.part.begin_part.Given as goal
 

@@ -1,7 +1,7 @@
 use Rattle.std.proofs.Common.{◌≡◌, ℕ, ◌+◌, ◌<◌, ◌^◌, List, All, map, length, sym, ap, ◌∙◌, subst, arith}
 use Rattle.std.specs.List.{fold}
 use Rattle.std.proofs.lemmas.List.{length-map}
-use Rattle.wal.specs.Records.{history, last_lsn, first, base_lsn}
+use Rattle.log_laws.specs.Records.{history, last_lsn, first, base_lsn}
 use Rattle.redo.specs.declared.tally.Tally.{Tally}
 use Rattle.redo.specs.Changes.{RedoPage, on_part, lsns_where, step, lsn_in}
 use Rattle.redo.specs.Routes.{boundary_in, skipped_in, Stands}
@@ -12,7 +12,7 @@ use Rattle.redo.proofs.Counting.{sound, stretch}
 use Rattle.redo.proofs.Replay.{all_stand, all_room, further, begins}
 use Rattle.redo.proofs.Parts.{all_done, all_there}
 use Rattle.redo.proofs.part.count_part.Goals as goal
-use Rattle.wal.proofs.Histories.{base_within}
+use Rattle.log_laws.proofs.Histories.{base_within}
 
 pub loop-route-init : goal.loop-route-init
 loop-route-init c =

@@ -1,7 +1,7 @@
 use Rattle.std.proofs.Common.{◌≡◌, suc, ◌+◌, ◌-◌, ◌<◌, ◌≤◌, ◌^◌, All, map, length, refl, sym, ap, ◌∙◌, subst, arith}
 use Rattle.std.specs.List.{fold}
 use Rattle.std.proofs.lemmas.List.{length-map, get_or-map, take_all}
-use Rattle.wal.specs.Records.{history}
+use Rattle.log_laws.specs.Records.{history}
 use Rattle.redo.specs.Changes.{RedoPage, step, lsn_in}
 use Rattle.redo.specs.Parts.{resolved}
 use Rattle.redo.proofs.Parts.{step_numbers, step_room, fold_none, fold_next}

@@ -1,6 +1,6 @@
 use Rattle.std.proofs.Common.{◌≡◌, ◌+◌, ◌-◌, ◌<◌, ◌^◌, All, length, map, take}
 use Rattle.std.specs.List.{fold}
-use Rattle.wal.specs.Records.{history}
+use Rattle.log_laws.specs.Records.{history}
 use Rattle.redo.specs.Changes.{step, lsn_in}
 use Rattle.redo.specs.Parts.{numbers_of, resolved}
 use Rattle.redo.proofs.part.replay.Given as goal

@@ -1,6 +1,6 @@
 use Rattle.std.proofs.Common.{◌≡◌, ap, arith}
-use Rattle.wal.specs.Records.{history, last_lsn, base_lsn}
-use Rattle.wal.proofs.Histories.{base_within}
+use Rattle.log_laws.specs.Records.{history, last_lsn, base_lsn}
+use Rattle.log_laws.proofs.Histories.{base_within}
 use Rattle.redo.proofs.Stretches.{skipped_within}
 use Rattle.redo.proofs.route.boundary.Goals as goal
 

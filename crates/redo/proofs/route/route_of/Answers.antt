@@ -1,9 +1,9 @@
 use Rattle.std.proofs.Common.{◌+◌, ap, ◌∙◌, arith}
-use Rattle.wal.specs.Records.{history, last_lsn, base_lsn}
+use Rattle.log_laws.specs.Records.{history, last_lsn, base_lsn}
 use Rattle.redo.specs.Routes.{skipped_in, boundary_in}
 use Rattle.redo.proofs.Stretches.{boundary_within, skipped_within, skipped_from}
 use Rattle.redo.proofs.route.route_of.Goals as goal
-use Rattle.wal.proofs.Histories.{base_within}
+use Rattle.log_laws.proofs.Histories.{base_within}
 
 pub route_through-requires-clause-within : goal.route_through-requires-clause-within
 route_through-requires-clause-within c =

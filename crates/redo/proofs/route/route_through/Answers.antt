@@ -1,6 +1,6 @@
 use Rattle.std.proofs.Common.{◌≡◌, ◌+◌, ◌<◌, List, [], ◌∷◌, ◌++◌, All, Some, cond, map, length, sym, ap, ◌∙◌, subst, arith}
 use Rattle.std.proofs.lemmas.Result.{err_from_is_err_and}
-use Rattle.wal.specs.Records.{◌▸◌, LogContent, history, last_lsn, record_at, first}
+use Rattle.log_laws.specs.Records.{◌▸◌, LogContent, history, last_lsn, record_at, first}
 use Rattle.wal.specs.Glances.{IsGlanceBehind}
 use Rattle.redo.specs.Notes.{notes_at}
 use Rattle.redo.specs.declared.note.Note.{Note}

@@ -1,5 +1,5 @@
 use Rattle.std.proofs.Common.{◌≡◌, ℕ, ◌<◌, All, length, map}
-use Rattle.wal.specs.Records.{history, first}
+use Rattle.log_laws.specs.Records.{history, first}
 use Rattle.redo.specs.Notes.{notes_at}
 use Rattle.redo.specs.Changes.{on_part, lsns_where, lsn_in, IsNote}
 use Rattle.redo.specs.Routes.{ExistWithin}

@@ -1,6 +1,6 @@
 use Rattle.std.proofs.Common.{◌≡◌, List, Some, None, length, get_or, set, refl, sym, ◌∙◌, ap, arith}
 use Rattle.std.proofs.lemmas.List.{length-set}
-use Rattle.wal.specs.Meaning.{cell_of}
+use Rattle.log_laws.specs.Meaning.{cell_of}
 use Rattle.redo.specs.Changes.{counted}
 use Rattle.redo.specs.Placed.{untouched}
 use Rattle.redo.specs.declared.tally.Tally.{Tally}

@@ -1,7 +1,7 @@
 use Rattle.std.proofs.Common.{◌<◌, None, length, replicate, sym, ap, ◌∙◌, refl, arith}
 use Rattle.page.specs.declared.page.Page.{Page}
 use Rattle.page.specs.declared.profile.TheConstants.{SLOTS}
-use Rattle.wal.specs.Records.{base_lsn, history}
+use Rattle.log_laws.specs.Records.{base_lsn, history}
 use Rattle.redo.specs.Inputs.{input_over}
 use Rattle.redo.specs.Parts.{resolved}
 use Rattle.redo.specs.Placed.{untouched}

@@ -1,8 +1,8 @@
 use Rattle.std.proofs.Common.{◌≡◌, sum, map, sym, ap, subst, ◌∙◌, arith}
 use Rattle.std.specs.List.{sum_by}
 use Rattle.page.specs.Store.{AreNumbered}
-use Rattle.wal.specs.Records.{history}
-use Rattle.wal.proofs.Histories.{size_of_log}
+use Rattle.log_laws.specs.Records.{history}
+use Rattle.log_laws.proofs.Histories.{size_of_log}
 use Rattle.redo.specs.declared.tally.Tally.{Tally}
 use Rattle.redo.specs.Inputs.{InputContent, input_over}
 use Rattle.redo.specs.Redone.{applied_to}

@@ -6,9 +6,9 @@ use Rattle.std.proofs.lemmas.List.Filters.{length-filter_both}
 use Rattle.std.proofs.lemmas.Map.Iter.{iter_end}
 use Rattle.std.specs.Map.Iter.{deref_pair}
 use Rattle.wal.specs.declared.record.Entry.{Entry}
-use Rattle.wal.specs.Records.{TableEntry, tx_in}
+use Rattle.log_laws.specs.Records.{TableEntry, tx_in}
 use Rattle.wal.specs.Content.{entry_of}
-use Rattle.wal.specs.Undo.{is_prepared, is_lost, doubtful_in}
+use Rattle.log_laws.specs.Undo.{is_prepared, is_lost, doubtful_in}
 use Rattle.tables.specs.Tables.{TablesContent}
 use Rattle.restart.proofs.doubt.in_doubt.Goals as goal
 

@@ -1,7 +1,7 @@
 use Rattle.std.proofs.Common.{◌≡◌, map}
 use Rattle.std.specs.Map.Iter.{deref_pair}
 use Rattle.wal.specs.Content.{entry_of}
-use Rattle.wal.specs.Undo.{doubtful_in}
+use Rattle.log_laws.specs.Undo.{doubtful_in}
 use Rattle.restart.proofs.doubt.in_doubt.Given as goal
 
 abbrev pub invariant-loop-tx : goal.invariant-loop-tx

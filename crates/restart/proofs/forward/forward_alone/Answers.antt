@@ -2,7 +2,7 @@ use Rattle.std.proofs.Common.{◌≡◌, ◌∙◌, [], map, length, ap, subst, 
 use Rattle.std.proofs.lemmas.Result.{err_from_is_err_and}
 use Rattle.page.specs.Store.{StoreContent}
 use Rattle.wal.specs.Content.{entry_of}
-use Rattle.wal.specs.Records.{history}
+use Rattle.log_laws.specs.Records.{history}
 use Rattle.analysis.specs.Tables.{AreTransactionsOf, BaseFault, ServesRedo}
 use Rattle.analysis.proofs.Halves.{both_halves}
 use Rattle.redo.specs.Redone.{AreWorkers}

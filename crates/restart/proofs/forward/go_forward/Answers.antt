@@ -1,7 +1,7 @@
 use Rattle.std.proofs.Common.{map}
 use Rattle.std.proofs.lemmas.Result.{err_from_is_err_and, IfOk-at_ok, IfErr-at_err}
 use Rattle.wal.specs.Content.{entry_of}
-use Rattle.wal.specs.Records.{history}
+use Rattle.log_laws.specs.Records.{history}
 use Rattle.analysis.specs.Tables.{AreTransactionsOf, BaseFault}
 use Rattle.analysis.proofs.Halves.{both_halves}
 use Rattle.restart.specs.Restart.{RedoesPages, ForwardFault}

@@ -1,6 +1,6 @@
 use Rattle.std.proofs.Common.{◌+◌, ap, sym, ◌∙◌, arith}
 use Rattle.std.proofs.lemmas.List.{take_all}
-use Rattle.wal.specs.Records.{history}
+use Rattle.log_laws.specs.Records.{history}
 use Rattle.undo.specs.Appended.{appended_records}
 use Rattle.restart.specs.Restart.{clrs_in, ends_in}
 use Rattle.restart.proofs.Tallied.{one_clr, one_end}

@@ -1,5 +1,5 @@
 use Rattle.std.proofs.Common.{◌≡◌, ◌≤◌, take}
-use Rattle.wal.specs.Records.{LogContent, history}
+use Rattle.log_laws.specs.Records.{LogContent, history}
 use Rattle.undo.specs.Appended.{appended_records, HaveUpdates}
 use Rattle.restart.specs.Restart.{clrs_in, ends_in}
 use Rattle.restart.proofs.passes.count_kinds.Given as goal

@@ -2,7 +2,7 @@ use Rattle.std.proofs.Common.{◌≡◌, List, length, sym, ap, ◌∙◌, subst
 use Rattle.std.proofs.lemmas.Result.{err_from_is_err_and, IfOk-weaker}
 use Rattle.page.specs.declared.page.Page.{Page}
 use Rattle.page.specs.Store.{StoreContent}
-use Rattle.wal.specs.Store.{Lawful}
+use Rattle.log_laws.specs.Store.{Lawful}
 use Rattle.undo.proofs.Told.{told_writable}
 use Rattle.restart.specs.Outcome.{OutcomeContent}
 use Rattle.restart.specs.Restart.{AreSettings}

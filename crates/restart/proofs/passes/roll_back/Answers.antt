@@ -2,7 +2,7 @@ use Rattle.std.proofs.Common.{ℕ, ◌≡◌, List, refl, sym, ap, subst}
 use Rattle.std.proofs.lemmas.Result.{err_from_is_err_and}
 use Rattle.page.specs.declared.page.Page.{Page}
 use Rattle.page.specs.Store.{AreNumbered}
-use Rattle.wal.specs.Records.{History, history}
+use Rattle.log_laws.specs.Records.{History, history}
 use Rattle.tables.specs.Tables.{TablesContent}
 use Rattle.redo.specs.Redone.{RedoneContent}
 use Rattle.restart.specs.declared.outcome.UndoOutcome.{UndoOutcome}

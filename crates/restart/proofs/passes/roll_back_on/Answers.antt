@@ -3,16 +3,15 @@ use Rattle.std.proofs.Common.{List, All, ℕ, ◌≡◌, ◌-◌, length, refl, 
 use Rattle.std.proofs.lemmas.List.{length-map}
 use Rattle.std.proofs.lemmas.Result.{err_from_is_err_and}
 use Rattle.page.specs.Store.{StoreContent}
-use Rattle.wal.specs.Records.{LogContent, history}
+use Rattle.log_laws.specs.Records.{LogContent, history}
 use Rattle.wal.specs.Content.{entry_of}
-use Rattle.wal.specs.Meaning.{BasePages}
-use Rattle.wal.specs.Store.{Lawful}
+use Rattle.log_laws.specs.Meaning.{BasePages}
+use Rattle.log_laws.specs.Store.{Lawful, NamesPages}
 use Rattle.tables.specs.Lawful.{AreTrue}
 use Rattle.tables.specs.Tables.{TablesContent, losers_in}
 use Rattle.redo.specs.Redone.{RedoneContent, redone_page}
 use Rattle.undo.specs.Appended.{full_records, appended_records, HaveUpdates, RolledBackInBrief}
 use Rattle.undo.specs.Rollback.{undone_pages}
-use Rattle.wal.specs.Store.{NamesPages}
 use Rattle.undo.specs.Enough.{AreGathered}
 use Rattle.undo.specs.Undone.{undone_page, MetExist, IsLawfulCrash, UndoFault}
 use Rattle.undo.proofs.LawfulUndo.{tail_is, memory_alone}

@@ -1,5 +1,5 @@
 use Rattle.std.proofs.Common.{Some, length, ap, sym, ◌∙◌}
-use Rattle.wal.specs.Records.{history}
+use Rattle.log_laws.specs.Records.{history}
 use Rattle.wal.specs.Spelling.{frame}
 use Rattle.wal.specs.Content.{shown}
 use Rattle.undo.specs.Appended.{clr_of, record_of}

@@ -1,5 +1,5 @@
 use Rattle.std.proofs.Common.{◌≡◌, map, take}
-use Rattle.wal.specs.Records.{history}
+use Rattle.log_laws.specs.Records.{history}
 use Rattle.wal.specs.Content.{content}
 use Rattle.undo.specs.Appended.{appended_records}
 use Rattle.undo.proofs.appended.records_of.Given as goal

@@ -3,9 +3,9 @@ use Rattle.std.proofs.lemmas.List.{map_push, length-map}
 use Rattle.page.specs.Image.{Image}
 use Rattle.page.specs.declared.page.Page.{Page}
 use Rattle.changes.specs.Changes.{page_put}
-use Rattle.wal.specs.Records.{LogRecord, Compensation, history}
+use Rattle.log_laws.specs.Records.{LogRecord, Compensation, history}
 use Rattle.wal.specs.Content.{shown}
-use Rattle.wal.proofs.Histories.{size_of_log}
+use Rattle.log_laws.proofs.Histories.{size_of_log}
 use Rattle.undo.specs.declared.appended.Appended.TheVariants as brief
 use Rattle.undo.specs.Appended.{clr_of, record_of, appended_records}
 use Rattle.undo.specs.Undone.{undone_page}

@@ -1,7 +1,7 @@
 use Rattle.std.proofs.Common.{◌≡◌, List, map, sym, ap, ◌∙◌, subst}
 use Rattle.std.proofs.lemmas.Result.{err_from_is_err_and}
 use Rattle.wal.specs.Content.{content}
-use Rattle.wal.specs.Records.{LogRecord, history}
+use Rattle.log_laws.specs.Records.{LogRecord, history}
 use Rattle.undo.specs.Appended.{appended_records}
 use Rattle.undo.specs.Undone.{RolledBack}
 use Rattle.undo.proofs.Told.{told_writable}

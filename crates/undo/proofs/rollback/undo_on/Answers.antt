@@ -1,7 +1,7 @@
 use Rattle.std.proofs.Common.{List, subst}
 use Rattle.std.proofs.lemmas.Result.{err_from_is_err_and}
 use Rattle.page.specs.declared.page.Page.{Page}
-use Rattle.wal.specs.Records.{history}
+use Rattle.log_laws.specs.Records.{history}
 use Rattle.tables.specs.Tables.{losers_in}
 use Rattle.undo.proofs.Placed.{rolling_once}
 use Rattle.undo.proofs.rollback.undo_on.Goals as goal

@@ -1,6 +1,6 @@
 use Rattle.std.proofs.Common.{◌+◌, ◌≤◌, sym, ap, ◌∙◌, arith}
-use Rattle.wal.specs.Records.{history, last_lsn}
-use Rattle.wal.proofs.Histories.{size_of_log}
+use Rattle.log_laws.specs.Records.{history, last_lsn}
+use Rattle.log_laws.proofs.Histories.{size_of_log}
 use Rattle.undo.specs.Rollback.{walk_from}
 use Rattle.undo.proofs.Walks.{walk_zero, walk_past, walk_stops, walk_goes_on, first_met, met_further}
 use Rattle.undo.proofs.walk.next_update.Goals as goal

@@ -1,5 +1,5 @@
 use Rattle.std.proofs.Common.{◌≡◌, ◌≤◌, ◌<◌}
-use Rattle.wal.specs.Records.{history}
+use Rattle.log_laws.specs.Records.{history}
 use Rattle.undo.specs.Rollback.{walk_from}
 use Rattle.undo.proofs.walk.next_update.Given as goal
 

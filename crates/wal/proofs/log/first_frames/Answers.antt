@@ -1,7 +1,6 @@
-use Rattle.std.proofs.Common.{◌≡◌, ◌+◌, ◌++◌, ℕ, List, drop, length, Ok, Err, None, subst, sym, ap, ◌∙◌, arith, inl, inr}
+use Rattle.std.proofs.Common.{◌+◌, drop, subst, sym, ap, ◌∙◌, arith, inl, inr}
 use Rattle.std.proofs.lemmas.List.{length-drop}
 use Rattle.std.proofs.lemmas.Result.{err_from_is_err_and}
-use Rattle.page.specs.declared.fault.Fault.{Fault}
 use Rattle.wal.specs.Frames.{next_at, Fails}
 use Rattle.wal.specs.Stretches.{AreFirst}
 use Rattle.wal.proofs.Stretches.{room_behind, first_cut}

@@ -2,7 +2,7 @@ use Rattle.std.proofs.Common.{◌≡◌, ◌+◌, ◌++◌, List, length, drop, 
 use Rattle.std.proofs.lemmas.List.{length-map}
 use Rattle.std.proofs.lemmas.Result.{err_from_is_err_and}
 use Rattle.wal.specs.Frames.{record_of, next_at, Fails}
-use Rattle.wal.specs.Records.{LogRecord}
+use Rattle.log_laws.specs.Records.{LogRecord}
 use Rattle.wal.specs.Stretches.{records_of}
 use Rattle.wal.proofs.Headers.{header_taken, at_least}
 use Rattle.wal.proofs.Whole.{lsn_behind, offset_behind, log_ends, log_fails}

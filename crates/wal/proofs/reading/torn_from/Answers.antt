@@ -1,5 +1,4 @@
-use Rattle.std.proofs.Common.{◌≡◌, ◌+◌, Ok, Err, Option, Result, Some, None, ℕ, drop, length, sym, ap, ◌∙◌}
-use Rattle.page.specs.declared.fault.Fault.{Fault}
+use Rattle.std.proofs.Common.{◌+◌, Ok, Option, ℕ, drop, length, sym, ap, ◌∙◌}
 use Rattle.wal.specs.Frames.{next_at, size_in}
 use Rattle.wal.proofs.NextFrame.{sized, unsized, fails_with}
 use Rattle.wal.proofs.reading.torn_from.Goals as goal

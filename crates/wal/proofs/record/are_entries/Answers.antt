@@ -1,7 +1,7 @@
 use Rattle.std.proofs.Common.{refl, arith}
 use Rattle.std.proofs.lemmas.Bool.{false≢true}
 use Rattle.wal.specs.Spelling.{FitsEntry}
-use Rattle.wal.specs.declared.record.State.TheVariants.{Active}
+use Rattle.log_laws.specs.declared.state.State.TheVariants.{Active}
 use Rattle.wal.specs.Content.{entry_of}
 use Rattle.wal.proofs.Rising.{more, falls, done}
 use Rattle.wal.proofs.record.are_entries.Goals as goal

@@ -1,5 +1,5 @@
 use Rattle.std.proofs.Common.{sym, arith}
-use Rattle.wal.specs.Records.{page_in}
+use Rattle.log_laws.specs.Records.{page_in}
 use Rattle.wal.specs.Reading.{dirty_at}
 use Rattle.wal.proofs.Tables.{dirty_size, begins, more, ends_short, ends_falling, is_done, is_table}
 use Rattle.wal.proofs.view.dirties_at.Goals as goal

@@ -1,4 +1,4 @@
-use Rattle.wal.specs.Records.{page_in}
+use Rattle.log_laws.specs.Records.{page_in}
 use Rattle.wal.specs.Reading.{dirty_at}
 use Rattle.wal.proofs.Tables.{SoFar}
 use Rattle.wal.proofs.view.dirties_at.Given as goal

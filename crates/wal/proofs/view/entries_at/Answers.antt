@@ -1,5 +1,5 @@
 use Rattle.std.proofs.Common.{sym, arith}
-use Rattle.wal.specs.Records.{tx_in}
+use Rattle.log_laws.specs.Records.{tx_in}
 use Rattle.wal.specs.Reading.{entry_at, no_entry}
 use Rattle.wal.specs.Content.{entry_of}
 use Rattle.wal.proofs.Tables.{entry_size, begins, more, ends_short, ends_falling, is_done, is_table}

@@ -1,4 +1,4 @@
-use Rattle.wal.specs.Records.{tx_in}
+use Rattle.log_laws.specs.Records.{tx_in}
 use Rattle.wal.specs.Reading.{entry_at, no_entry}
 use Rattle.wal.proofs.Tables.{SoFar}
 use Rattle.wal.proofs.view.entries_at.Given as goal

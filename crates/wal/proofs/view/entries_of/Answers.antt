@@ -1,6 +1,6 @@
 use Rattle.std.proofs.Common.{List, [], ◌∷◌, ◌++◌, map, ap, sym, ◌∙◌, arith}
 use Rattle.std.proofs.lemmas.List.{map_push}
-use Rattle.wal.specs.Records.{TableEntry}
+use Rattle.log_laws.specs.Records.{TableEntry}
 use Rattle.wal.specs.Content.{entry_of}
 use Rattle.wal.proofs.Tables.{taken_more}
 use Rattle.wal.proofs.view.entries_of.Goals as goal

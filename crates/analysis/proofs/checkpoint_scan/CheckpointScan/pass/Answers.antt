@@ -1,5 +1,5 @@
 use Rattle.std.proofs.Common.{sym, ◌∙◌, refl, subst}
-use Rattle.wal.specs.Records.{◌▸▸◌}
+use Rattle.log_laws.specs.Records.{◌▸▸◌}
 use Rattle.analysis.specs.Passing.{HasSeen}
 use Rattle.analysis.proofs.Seen.{some_both, stays_found, stays_missing, met_now}
 use Rattle.analysis.proofs.checkpoint_scan.CheckpointScan.pass.Goals as goal

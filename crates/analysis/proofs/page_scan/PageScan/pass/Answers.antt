@@ -1,7 +1,7 @@
 use Rattle.std.proofs.Common.{◌≡◌, ◌≤◌, inl, inr, ap, ◌∙◌, arith, max}
-use Rattle.wal.specs.Records.{history, last_lsn, base_lsn}
-use Rattle.wal.specs.Redo.{rec_lsn_of}
-use Rattle.wal.proofs.Histories.{first_all}
+use Rattle.log_laws.specs.Records.{history, last_lsn, base_lsn}
+use Rattle.log_laws.specs.Redo.{rec_lsn_of}
+use Rattle.log_laws.proofs.Histories.{first_all}
 use Rattle.analysis.specs.Tables.{analysed_rec_lsn}
 use Rattle.analysis.proofs.Scanned.{at_first}
 use Rattle.analysis.proofs.Passing.{rec_lsn_on}

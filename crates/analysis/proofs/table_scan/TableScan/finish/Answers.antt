@@ -1,5 +1,5 @@
 use Rattle.std.proofs.Common.{sym, subst}
-use Rattle.wal.specs.Records.{history}
+use Rattle.log_laws.specs.Records.{history}
 use Rattle.analysis.specs.Passing.{HasAnalysed}
 use Rattle.analysis.proofs.BothTables.{analysed_all}
 use Rattle.analysis.proofs.Truth.{tables_true}

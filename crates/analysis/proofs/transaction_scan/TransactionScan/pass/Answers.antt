@@ -1,6 +1,6 @@
 use Rattle.std.proofs.Common.{◌≡◌, ℕ, ◌++◌, ◌+◌, ◌≤◌, sym, ap, ◌∙◌, arith, max}
-use Rattle.wal.specs.Records.{history, last_lsn, first, base_lsn}
-use Rattle.wal.proofs.Histories.{size_of_first, size_of_first_le, first_all, base_of_first}
+use Rattle.log_laws.specs.Records.{history, last_lsn, first, base_lsn}
+use Rattle.log_laws.proofs.Histories.{size_of_first, size_of_first_le, first_all, base_of_first}
 use Rattle.analysis.specs.Tables.{entry_at, analysed_entry}
 use Rattle.analysis.specs.Steps.{entry_after, held_entry, those_kept}
 use Rattle.analysis.proofs.Scanned.{entry_none, entry_next, entry_glanced}

@@ -1,5 +1,5 @@
 use Rattle.std.proofs.Common.{◌≡◌, ℕ, None}
-use Rattle.wal.specs.Records.{history, first}
+use Rattle.log_laws.specs.Records.{history, first}
 use Rattle.analysis.specs.Tables.{entry_at, analysed_entry}
 use Rattle.analysis.specs.Steps.{held_entry, AreKept, HasNoneAbove}
 use Rattle.analysis.proofs.transaction_scan.TransactionScan.pass.Given as goal

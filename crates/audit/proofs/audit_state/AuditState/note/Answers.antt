@@ -1,5 +1,5 @@
 use Rattle.std.proofs.Common.{◌≡◌, ℕ, List, [], ◌∷◌, ◌++◌, length, ap, sym, subst, ◌∙◌, arith, length-append, ◌+◌, ap₂}
-use Rattle.wal.specs.Records.{LogRecord, ◌▸◌, last_lsn, base_lsn}
+use Rattle.log_laws.specs.Records.{LogRecord, ◌▸◌, last_lsn, base_lsn}
 use Rattle.wal.specs.Content.{shown}
 use Rattle.audit.specs.declared.cell.Cell.{Cell}
 use Rattle.audit.specs.Statuses.{under}

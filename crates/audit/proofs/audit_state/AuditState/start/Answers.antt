@@ -1,5 +1,5 @@
 use Rattle.std.proofs.Common.{ℕ, List, length, refl, sym, ap, subst, arith}
-use Rattle.wal.specs.Records.{start}
+use Rattle.log_laws.specs.Records.{start}
 use Rattle.audit.specs.Statuses.{IsStatusOf, unknown}
 use Rattle.audit.specs.Standings.{IsStandingOf}
 use Rattle.audit.proofs.audit_state.AuditState.start.Goals as goal

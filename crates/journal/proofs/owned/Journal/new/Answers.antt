@@ -1,7 +1,7 @@
 use Rattle.std.proofs.lemmas.List.{with_items_is, places}
 use Rattle.std.proofs.lemmas.Result.{err_from_is_err_and}
 use Rattle.std.proofs.Common.{rules, ◌≡◌, List, [], length, take, sym, subst, arith}
-use Rattle.wal.specs.Pages.{base_pages}
+use Rattle.log_laws.specs.Pages.{base_pages}
 use Rattle.journal.specs.declared.entries.PageEntry.{PageEntry}
 use Rattle.journal.specs.Runs.{Run, opened, empty_log}
 use Rattle.journal.specs.declared.owned.TheConstants.{PENDING}

@@ -1,7 +1,7 @@
 use Rattle.std.proofs.lemmas.List.{with_items_is, places}
 use Rattle.std.proofs.Common.{rules, ◌++◌, ◌∙◌, refl, ◌-◌, ℕ, List, length, take, ap, sym, subst, arith}
 use borrow.Rule.Slice.PartMut.{post_of}
-use Rattle.wal.specs.Records.{Prepare}
+use Rattle.log_laws.specs.Records.{Prepare}
 use Rattle.journal.specs.declared.entries.TransactionEntry.{TransactionEntry}
 use Rattle.journal.specs.declared.owned.Journal.TheInside.{Inside}
 use Rattle.journal.specs.State.{IsJournal, plain_by}

@@ -1,4 +1,4 @@
-use Rattle.wal.specs.Meaning.{BasePages}
+use Rattle.log_laws.specs.Meaning.{BasePages}
 use Rattle.journal.specs.Runs.{Run}
 use Rattle.journal.specs.JournalState.{Keeps}
 use Rattle.journal.proofs.Rolled.{Rolled}

@@ -2,8 +2,8 @@ use Rattle.std.proofs.lemmas.List.{with_items_is, places}
 use Rattle.std.proofs.lemmas.Result.{err_from_is_err_and}
 use Rattle.std.proofs.Common.{rules, ◌++◌, ◌∙◌, ◌⊎◌, ◌<◌, ◌≡◌, ◌≤◌, ◌+◌, ◌-◌, ℕ, List, length, take, ap, sym, subst, arith}
 use borrow.Rule.Slice.PartMut.{mid_of, post_of}
-use Rattle.wal.specs.Records.{LogRecord}
-use Rattle.wal.specs.Meaning.{BasePages}
+use Rattle.log_laws.specs.Records.{LogRecord}
+use Rattle.log_laws.specs.Meaning.{BasePages}
 use Rattle.page.specs.Image.{Image as Content}
 use Rattle.journal.specs.declared.entries.TransactionEntry.{TransactionEntry}
 use Rattle.journal.specs.declared.entries.PendingEntry.{PendingEntry}

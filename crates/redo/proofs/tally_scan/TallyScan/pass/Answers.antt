@@ -1,7 +1,7 @@
 use Rattle.std.proofs.Common.{◌≡◌, ◌+◌, ◌≤◌, ◌<◌, length, sym, ap, ◌∙◌, subst, arith}
 use Rattle.std.proofs.lemmas.Result.{err_from_is_err_and}
-use Rattle.wal.specs.Records.{history, last_lsn, base_lsn}
-use Rattle.wal.proofs.Histories.{base_within}
+use Rattle.log_laws.specs.Records.{history, last_lsn, base_lsn}
+use Rattle.log_laws.proofs.Histories.{base_within}
 use Rattle.redo.specs.Routes.{skipped, ExistWithin, NoteFault}
 use Rattle.redo.specs.OnePass.{AreUpTo}
 use Rattle.redo.specs.Passing.{TalliesSoFar, AreScanned}

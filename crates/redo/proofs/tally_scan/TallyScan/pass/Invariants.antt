@@ -1,5 +1,5 @@
 use Rattle.std.proofs.Common.{◌≡◌}
-use Rattle.wal.specs.Records.{history, last_lsn}
+use Rattle.log_laws.specs.Records.{history, last_lsn}
 use Rattle.redo.proofs.Passing.{HasPassed}
 use Rattle.redo.proofs.tally_scan.TallyScan.pass.Given as goal
 

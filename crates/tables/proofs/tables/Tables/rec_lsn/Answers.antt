@@ -1,5 +1,5 @@
 use Rattle.std.proofs.Common.{sym, ap, ◌∙◌}
-use Rattle.wal.specs.Redo.{rec_lsn_of}
+use Rattle.log_laws.specs.Redo.{rec_lsn_of}
 use Rattle.tables.specs.Tables.{TablesContent}
 use Rattle.tables.proofs.Lookups.{rec_lsn_of-lookup}
 use Rattle.tables.proofs.tables.Tables.rec_lsn.Goals as goal

@@ -3,7 +3,7 @@ use Rattle.std.specs.Prelude.{unwrap_or}
 use Rattle.std.proofs.lemmas.List.{get_or-map, length-map}
 use Rattle.wal.specs.Content.{content}
 use Rattle.wal.specs.Spelling.{Fits}
-use Rattle.wal.specs.Records.{LogRecord, Update, Compensation, CheckpointBegin, history, record_at}
+use Rattle.log_laws.specs.Records.{LogRecord, Update, Compensation, CheckpointBegin, history, record_at}
 use Rattle.undo.specs.Gathered.{link_in, place_of}
 use Rattle.undo.proofs.Chains.{place_of-lookup, kept_here, kept_nowhere, gathered_at, gathered_none, gathered_past}
 use Rattle.undo.proofs.gathered.Gathered.get.Goals.{then-lsn-self-via-then-lsn-self, then-lsn-self-via-else-lsn-self+then-lsn-self-2}

@@ -1,7 +1,7 @@
 use Rattle.std.proofs.Common.{◌≡◌, ◌+◌, map, refl, sym, ap, ◌∙◌, arith}
 use Rattle.std.proofs.lemmas.Bool.{false≢true}
 use Rattle.wal.specs.Content.{content}
-use Rattle.wal.specs.Records.{history, last_lsn, base_lsn}
+use Rattle.log_laws.specs.Records.{history, last_lsn, base_lsn}
 use Rattle.undo.proofs.Chains.{gathered_last, gathered_base}
 use Rattle.undo.proofs.gathered.Gathered.has.Goals.{then-lsn-self-via-then-lsn-self, then-lsn-self-via-else-lsn-self+then-last-lsn}
 use Rattle.undo.proofs.gathered.Gathered.has.Goals as goal

@@ -3,7 +3,7 @@ use Rattle.std.proofs.lemmas.List.{map_push, length-map}
 use Rattle.std.proofs.lemmas.List.Elements.{All-push}
 use Rattle.wal.specs.Content.{content}
 use Rattle.wal.specs.Spelling.{Fits}
-use Rattle.wal.specs.Records.{LogRecord, history, last_lsn, base_lsn, record_at}
+use Rattle.log_laws.specs.Records.{LogRecord, history, last_lsn, base_lsn, record_at}
 use Rattle.undo.specs.Gathered.{IsGathered, gathered_log, link_in, place_of}
 use Rattle.undo.proofs.Chains.{gathered_last, gathered_base, gathered_more, place_of-changed, placed_more, kept_more}
 use Rattle.undo.proofs.gathered.Gathered.keep.Goals as goal

@@ -1,6 +1,6 @@
 use Rattle.std.proofs.Common.{length, map, sym, ap, ◌∙◌, arith}
 use Rattle.wal.specs.Content.{content}
-use Rattle.wal.specs.Records.{history, last_lsn, base_lsn}
+use Rattle.log_laws.specs.Records.{history, last_lsn, base_lsn}
 use Rattle.undo.proofs.Chains.{gathered_last, gathered_base, gathered_length}
 use Rattle.undo.proofs.gathered.Gathered.next_lsn.Goals as goal
 

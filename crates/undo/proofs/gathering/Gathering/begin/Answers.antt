@@ -2,9 +2,9 @@ use Rattle.std.proofs.Common.{◌≡◌, ◌+◌, map, false, List, subst, sym, 
 use Rattle.std.specs.Prelude.{All}
 use Rattle.std.specs.Map.Iter.{deref_pair}
 use Rattle.std.proofs.lemmas.Map.Iter.{iter_end}
-use Rattle.wal.specs.Records.{TableEntry, history, base_lsn, last_lsn, record_at}
+use Rattle.log_laws.specs.Records.{TableEntry, history, base_lsn, last_lsn, record_at}
 use Rattle.wal.specs.Content.{entry_of}
-use Rattle.wal.specs.Undo.{is_lost, lost_in}
+use Rattle.log_laws.specs.Undo.{is_lost, lost_in}
 use Rattle.tables.specs.Tables.{losers_in}
 use Rattle.undo.specs.Gathered.{IsPassedOver}
 use Rattle.undo.specs.Wants.{wants_in}

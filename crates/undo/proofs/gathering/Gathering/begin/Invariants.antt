@@ -1,9 +1,9 @@
 use Rattle.std.proofs.Common.{◌≡◌, ◌+◌, ℕ, map}
 use Rattle.std.specs.Prelude.{All}
 use Rattle.std.specs.Map.Iter.{deref_pair}
-use Rattle.wal.specs.Records.{history, base_lsn, last_lsn, record_at}
+use Rattle.log_laws.specs.Records.{history, base_lsn, last_lsn, record_at}
 use Rattle.wal.specs.Content.{entry_of}
-use Rattle.wal.specs.Undo.{lost_in}
+use Rattle.log_laws.specs.Undo.{lost_in}
 use Rattle.undo.specs.Gathered.{IsPassedOver}
 use Rattle.undo.specs.Wants.{WantUpTo, wants_in}
 use Rattle.undo.proofs.FirstWants.{Waits}

@@ -1,4 +1,4 @@
-use Rattle.wal.specs.Records.{history}
+use Rattle.log_laws.specs.Records.{history}
 use Rattle.undo.specs.Wants.{wants_in}
 use Rattle.undo.proofs.Gathers.{all_gathered}
 use Rattle.undo.proofs.gathering.Gathering.finish.Goals as goal

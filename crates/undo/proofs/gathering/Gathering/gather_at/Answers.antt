@@ -2,8 +2,8 @@ use Rattle.std.proofs.Common.{◌≡◌, Some, None, sym, ap, ◌∙◌, arith}
 use Rattle.std.specs.Prelude.{option_map}
 use Rattle.std.proofs.lemmas.Result.{on_ok_weaker}
 use Rattle.wal.specs.Content.{content, shown}
-use Rattle.wal.specs.Records.{LogRecord, history, record_at}
-use Rattle.wal.proofs.Histories.{record_above, record_within}
+use Rattle.log_laws.specs.Records.{LogRecord, history, record_at}
+use Rattle.log_laws.proofs.Histories.{record_above, record_within}
 use Rattle.undo.specs.Rollback.{hop_of}
 use Rattle.undo.specs.Enough.{sends}
 use Rattle.undo.specs.Wants.{wants_in}

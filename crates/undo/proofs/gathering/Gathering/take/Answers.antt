@@ -1,5 +1,5 @@
 use Rattle.std.proofs.Common.{◌≤◌, ◌∷◌, subst, sym, arith}
-use Rattle.wal.specs.Records.{history, last_lsn}
+use Rattle.log_laws.specs.Records.{history, last_lsn}
 use Rattle.undo.specs.Wants.{WantUpTo, wants_in}
 use Rattle.undo.specs.Gathering.{AreGatheredSoFar}
 use Rattle.undo.proofs.Gathers.{reordered, up_to_first, up_to_rest}

@@ -1,5 +1,5 @@
 use Rattle.std.proofs.Common.{List}
-use Rattle.wal.specs.Records.{History, TableEntry, history, last_lsn}
+use Rattle.log_laws.specs.Records.{History, TableEntry, history, last_lsn}
 use Rattle.tables.specs.Pieces.{IsPieceOf}
 use Rattle.undo.specs.Wants.{WantUpTo, wants_in}
 use Rattle.undo.specs.Gathering.{IsGathering}

@@ -8,11 +8,11 @@ use Rattle.std.proofs.lemmas.Cmp.{nat_cmp_total}
 use Rattle.std.specs.Map.{lookup}
 use Rattle.std.specs.Ordering.{is_eq, nat_cmp}
 use Rattle.std.specs.Map.Iter.{deref_pair}
-use Rattle.wal.specs.Records.{TableEntry, tx_in, history}
+use Rattle.log_laws.specs.Records.{TableEntry, tx_in, history}
 use Rattle.wal.specs.declared.record.Entry.{Entry}
 use Rattle.wal.specs.Content.{entry_of}
-use Rattle.wal.specs.Undo.{entry_for, is_lost, lost_in}
-use Rattle.wal.proofs.Histories.{size_of_log}
+use Rattle.log_laws.specs.Undo.{entry_for, is_lost, lost_in}
+use Rattle.log_laws.proofs.Histories.{size_of_log}
 use Rattle.wal.proofs.Entries.{Rise, entry_found, rise, distinct}
 use Rattle.tables.specs.Tables.{losers_in}
 use Rattle.undo.specs.Appended.{record_of, appended_records}

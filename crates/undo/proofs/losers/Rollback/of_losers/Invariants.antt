@@ -1,9 +1,9 @@
 use Rattle.std.proofs.Common.{◌<◌, ◌^◌, map}
 use Rattle.std.specs.Prelude.{All}
 use Rattle.std.specs.Map.Iter.{deref_pair}
-use Rattle.wal.specs.Records.{tx_in, history}
+use Rattle.log_laws.specs.Records.{tx_in, history}
 use Rattle.wal.specs.Content.{entry_of}
-use Rattle.wal.specs.Undo.{lost_in}
+use Rattle.log_laws.specs.Undo.{lost_in}
 use Rattle.tables.specs.Tables.{losers_in}
 use Rattle.undo.specs.Appended.{appended_records, HaveUpdates, AreFit}
 use Rattle.undo.specs.Undone.{HasNoTransaction0}

@@ -1,5 +1,5 @@
 use Rattle.std.proofs.Common.{subst}
-use Rattle.wal.specs.Records.{history}
+use Rattle.log_laws.specs.Records.{history}
 use Rattle.undo.specs.Rollback.{Meets, FirstMet, loser_at}
 use Rattle.undo.proofs.Placed.{nobody_there}
 use Rattle.undo.proofs.losers.Rollback.resolve.Goals as goal

@@ -1,7 +1,7 @@
 use Rattle.std.proofs.Common.{ℕ, ◌+◌, ◌<◌, ◌≤◌, ◌∙◌, refl, subst, length, arith}
 use Rattle.std.proofs.lemmas.Result.{err_from_is_err_and}
-use Rattle.wal.specs.Records.{LogContent, history, base_lsn}
-use Rattle.wal.proofs.Histories.{size_of_log, base_of_log}
+use Rattle.log_laws.specs.Records.{LogContent, history, base_lsn}
+use Rattle.log_laws.proofs.Histories.{size_of_log, base_of_log}
 use Rattle.tables.specs.Tables.{TablesContent, losers_in}
 use Rattle.undo.specs.declared.losers.Loser.{Loser}
 use Rattle.undo.specs.declared.losers.Rollback.{Rollback}

@@ -1,5 +1,5 @@
 use Rattle.std.proofs.Common.{◌≡◌, ◌+◌, ◌*◌, ◌-◌, ◌≤◌, length}
-use Rattle.wal.specs.Records.{history, base_lsn}
+use Rattle.log_laws.specs.Records.{history, base_lsn}
 use Rattle.tables.specs.Tables.{TablesContent}
 use Rattle.undo.specs.Turns.{turns_of}
 use Rattle.undo.specs.Rollback.{loser_at, WaitOnce, AreUpdates, StayTold, StayFit, PutsAllBack, IsRolling}

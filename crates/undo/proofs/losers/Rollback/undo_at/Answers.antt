@@ -2,8 +2,8 @@ use Rattle.std.proofs.Common.{◌+◌, ◌<◌, List, map, refl, subst, arith}
 use Rattle.std.proofs.lemmas.List.{length-map}
 use Rattle.std.proofs.lemmas.Result.{err_from_is_err_and, on_ok_weaker, IfErr-weaker}
 use Rattle.page.specs.declared.page.Page.{Page}
-use Rattle.wal.specs.Records.{history}
-use Rattle.wal.proofs.Histories.{size_of_log, base_of_log}
+use Rattle.log_laws.specs.Records.{history}
+use Rattle.log_laws.proofs.Histories.{size_of_log, base_of_log}
 use Rattle.tables.specs.Tables.{losers_in}
 use Rattle.undo.specs.Appended.{record_of, appended_records}
 use Rattle.undo.specs.Undone.{undone_page}

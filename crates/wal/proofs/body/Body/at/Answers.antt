@@ -1,4 +1,4 @@
-use Rattle.std.proofs.Common.{◌≡◌, List, take, drop, sym, subst, arith, rules}
+use Rattle.std.proofs.Common.{◌≡◌, take, drop, sym, subst, arith}
 use Rattle.std.proofs.lemmas.Grind.{common_steps}
 use Rattle.wal.specs.Frames.{IsBody, body_of}
 use Rattle.wal.proofs.Places.{body_there}

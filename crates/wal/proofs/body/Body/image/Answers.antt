@@ -1,5 +1,5 @@
 use Rattle.std.proofs.Common.{sym, ap, ◌∙◌, rules}
-use Rattle.wal.specs.Meaning.{image_in}
+use Rattle.log_laws.specs.Meaning.{image_in}
 use Rattle.wal.specs.Reading.{body_at}
 use Rattle.wal.proofs.Images.{short_read}
 use Rattle.wal.proofs.Places.{no_body}

@@ -1,7 +1,7 @@
 use Rattle.std.proofs.Common.{◌≡◌, Some, None, sym, ◌∙◌}
-use Rattle.wal.specs.Records.{LogRecord, history}
+use Rattle.log_laws.specs.Records.{LogRecord, history}
 use Rattle.wal.specs.Content.{shown}
-use Rattle.wal.proofs.Histories.{behind, first_more}
+use Rattle.log_laws.proofs.Histories.{behind, first_more}
 use Rattle.wal.proofs.log.Log.after.Goals as goal
 
 none_is_none : (x : LogRecord) → None ≡ Some x → ⊥

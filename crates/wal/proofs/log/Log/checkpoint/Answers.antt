@@ -1,9 +1,9 @@
 use Rattle.std.proofs.Common.{Some, ap, sym, ◌∙◌}
 use Rattle.wal.specs.declared.view.RecordView.{RecordView}
 use Rattle.wal.specs.Content.{shown}
-use Rattle.wal.specs.Records.{history}
-use Rattle.wal.specs.Checkpoint.{is_begin}
-use Rattle.wal.proofs.Checkpoints.{begin_above}
+use Rattle.log_laws.specs.Records.{history}
+use Rattle.log_laws.specs.Checkpoint.{is_begin}
+use Rattle.log_laws.proofs.Checkpoints.{begin_above}
 use Rattle.wal.proofs.log.Log.checkpoint.Goals as goal
 
 pub checkpoint_end-requires : goal.checkpoint_end-requires

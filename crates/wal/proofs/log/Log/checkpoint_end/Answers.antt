@@ -1,9 +1,9 @@
 use Rattle.std.proofs.Common.{arith, subst, sym, ap, ◌∙◌}
-use Rattle.wal.specs.Records.{CheckpointEnd, history, first}
+use Rattle.log_laws.specs.Records.{CheckpointEnd, history, first}
 use Rattle.wal.specs.Spelling.{Fits}
-use Rattle.wal.specs.Checkpoint.{first_end}
-use Rattle.wal.proofs.Histories.{size_of_first_le, first_all}
-use Rattle.wal.proofs.Checkpoints.{first_end_none, first_end_met}
+use Rattle.log_laws.specs.Checkpoint.{first_end}
+use Rattle.log_laws.proofs.Histories.{size_of_first_le, first_all}
+use Rattle.log_laws.proofs.Checkpoints.{first_end_none, first_end_met}
 use Rattle.wal.proofs.log.Log.checkpoint_end.Goals as goal
 
 pub loop-lsn-init : goal.loop-lsn-init

@@ -2,9 +2,9 @@ use Rattle.std.proofs.Common.{◌≡◌, ◌+◌, ◌-◌, Some, ap, ◌∙◌, 
 use Rattle.std.specs.Prelude.{option_map}
 use Rattle.std.proofs.lemmas.Option.{same_Some}
 use Rattle.wal.specs.Glances.{glance_of}
-use Rattle.wal.specs.Records.{LogRecord, history, record_at}
+use Rattle.log_laws.specs.Records.{LogRecord, history, record_at}
 use Rattle.wal.specs.Frames.{entry_at}
-use Rattle.wal.proofs.Histories.{base_of_log, first_more}
+use Rattle.log_laws.proofs.Histories.{base_of_log, first_more}
 use Rattle.wal.proofs.Places.{numbered}
 use Rattle.wal.proofs.log.Log.glance_after.Goals as goal
 

@@ -1,6 +1,6 @@
 use Rattle.std.proofs.Common.{ap, arith}
-use Rattle.wal.specs.Records.{lsn_before, LogContent}
-use Rattle.wal.proofs.Histories.{size_of_log}
+use Rattle.log_laws.specs.Records.{lsn_before, LogContent}
+use Rattle.log_laws.proofs.Histories.{size_of_log}
 use Rattle.wal.proofs.log.Log.last.Goals as goal
 
 pub returns : goal.returns

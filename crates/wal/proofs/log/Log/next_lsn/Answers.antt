@@ -1,7 +1,7 @@
 use Rattle.std.proofs.Common.{ap, arith}
-use Rattle.wal.specs.Records.{lsn_before, LogContent}
+use Rattle.log_laws.specs.Records.{lsn_before, LogContent}
 use Rattle.wal.proofs.Headers.{start_small}
-use Rattle.wal.proofs.Histories.{size_of_log, base_of_log}
+use Rattle.log_laws.proofs.Histories.{size_of_log, base_of_log}
 use Rattle.wal.proofs.log.Log.next_lsn.Goals as goal
 
 pub returns-clause-next : goal.returns-clause-next

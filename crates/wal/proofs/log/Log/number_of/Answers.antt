@@ -1,6 +1,6 @@
 use Rattle.std.proofs.Common.{ap, ◌∙◌, inl, inr, arith}
-use Rattle.wal.specs.Records.{lsn_before, LogContent, history}
-use Rattle.wal.proofs.Histories.{record_none, base_of_log}
+use Rattle.log_laws.specs.Records.{lsn_before, LogContent, history}
+use Rattle.log_laws.proofs.Histories.{record_none, base_of_log}
 use Rattle.wal.proofs.Places.{numbered}
 use Rattle.wal.proofs.log.Log.number_of.Goals.{then-lsn-base-via-then-lsn-base, then-lsn-base-via-else-lsn-base+then-lsn-last}
 use Rattle.wal.proofs.log.Log.number_of.Goals as goal

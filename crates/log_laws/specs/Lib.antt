@@ -1,0 +1,11 @@
+pub mod Records
+pub mod Meaning
+pub mod Laws
+pub mod Tail
+pub mod Hops
+pub mod Redo
+pub mod Pages
+pub mod Checkpoint
+pub mod Store
+pub mod Undo
+pub mod Theorems
