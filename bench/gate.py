@@ -1,25 +1,25 @@
 #!/usr/bin/env python3
-"""Prints the processor seconds that each crate takes in `rt ci`: its proofs, its tests, its must-fail edits.
+"""Prints the processor seconds that each crate takes in `rt ci`: its proof, its tests, its must-fail edits.
 
 usage: bench/gate.py [--anew] [--log FILE] [--table FILE]
 
 It runs `rt ci` in the checkout in which it is called, and looks at the processes of that run ten times a second.
 A check that ends between two looks keeps the seconds that were seen last, so up to a tenth of a second of each is lost;
-the line `not seen` has their sum. With --anew nothing that an earlier run kept is used, as on a new machine.
---log takes what `rt ci` prints, and --table a copy of the table.
+the line `not seen` has their sum. `seed` is the check of a crate as it stands, from which its edits begin if there are
+two or more. With --anew nothing that an earlier run kept is used, as on a new machine. --log takes what `rt ci` prints,
+and --table a copy of the table.
 """
 
 import argparse
 import collections
 import os
-import re
 import subprocess
 import sys
 import time
 
 TICKS = os.sysconf("SC_CLK_TCK")
 LOOKS = 0.1
-KINDS = "proof", "tests", "edits", "other"
+KINDS = "proof", "tests", "seed", "edits", "other"
 
 
 def processes():
@@ -35,12 +35,6 @@ def processes():
         yield int(name), int(fields[1]), int(fields[19]), (int(fields[11]) + int(fields[12])) / TICKS
 
 
-def crate_of(path):
-    """Returns the crate in whose folder, or in a copy of whose files, a command runs."""
-    at = re.search(r"/crates/(\w+)", path)
-    return at[1] if at else None
-
-
 def what_of(number):
     """Returns the crate and the kind of work of a process of the prover, or None if it is something else."""
     try:
@@ -51,10 +45,9 @@ def what_of(number):
         return None
     if not words or os.path.basename(words[0]) != "rattle":
         return None
-    named = [words[at + 1].partition("=")[0] for at, it in enumerate(words[:-1]) if it == "--links"]
-    crate = crate_of(folder) or (named[0] if named else None)
+    crate = words[words.index("--crate-name") + 1] if "--crate-name" in words[:-1] else None
     if "rt-edit" in folder:
-        return crate, "edits"
+        return crate, "seed" if any(it.endswith("/seed") for it in words) else "edits"
     return crate, "tests" if "--test" in words else "proof"
 
 

@@ -1,4 +1,4 @@
-use Rattle.std.proofs.Common.{List, Bool, ℕ, sym, subst}
+use Rattle.std.proofs.Common.{List, Bool, sym, subst}
 use Rattle.page.specs.declared.profile.TheConstants.{PAGES}
 use Rattle.analysis.specs.Steps.{AreListed}
 use Rattle.analysis.proofs.Maps.{none_known}
