@@ -33,7 +33,7 @@ def crates():
     """The names of the libraries, from the lowest to the highest, without those that only test."""
     names = re.findall(r"^(\w+)[^:\n]*:", text_of("crates.txt"), re.M)
     libraries = [name for name in names if os.path.exists(os.path.join(TOP, f"crates/{name}/src/lib.rt"))]
-    return [name for name in libraries if not name.endswith("rows") and name != "workloads"]
+    return [name for name in libraries if not name.endswith(("_tests", "_rows")) and name != "workloads"]
 
 
 def modules(crate):

@@ -53,7 +53,7 @@ CHECKS = [Check(*row) for row in (
     ("borrow", "borrow", "check_borrow", ROOM, "wal", "views of a log that live too long"),
     ("chosen", "chosen", "check_chosen", ROOM, "aries_cli", "audits of chosen numbers"),
     ("prints", "recoveries", "check_prints", ROOM, "aries_cli", "prints that fail"),
-    ("refusals", "recoveries", "check_refusals", ROOM, "aries_cli rows", "growths of memory that are refused"),
+    ("refusals", "recoveries", "check_refusals", ROOM, "aries_cli row_files", "growths of memory that are refused"),
     ("dump", "dump", "check_dump", ROOM, "aries_dump", "aries_dump"),
     ("c-names", "embed", "names_of_c", C, "", "the header in each language"),
     ("c-header", "embed", "header", C, "library", "every call of the header"),
