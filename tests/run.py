@@ -25,7 +25,7 @@ Check = namedtuple("Check", "name module function takes needs looks_for")
 NOTHING, ROOM, C = "nothing", "a folder", "the library for C"
 CHECKS = [Check(*row) for row in (
     ("documents", "documents", "check_documents", NOTHING, "", "links, README's code, tables of faults and rows"),
-    ("contracts", "contracts", "check_contracts", NOTHING, "", "docs/CONTRACTS.md, and what docs/PROOFS.md cites"),
+    ("contracts", "contracts", "check_contracts", NOTHING, "", "what docs/PROOFS.md cites, and lemmas that nothing names"),
     ("clauses", "clauses", "check_clauses", NOTHING, "", "clauses that are too long"),
     ("sizes", "sizes", "check_sizes", NOTHING, "", "numbers in place of the names of sizes"),
     ("pages", "pages", "check_pages", NOTHING, "", "the man pages and --help"),
