@@ -15,8 +15,8 @@ from collections import defaultdict, deque
 
 CRATES = os.path.join(os.path.dirname(os.path.dirname(os.path.abspath(__file__))), 'crates')
 # the crates that no run of these ways goes through: tests, the journal, and a log that is read record by record
-TESTS = {'base_rows', 'log_rows', 'core_rows', 'redo_rows', 'restart_rows', 'recovery_rows', 'rows', 'workloads', 'audit_times'}
-JOURNAL = {'journal', 'journal_recovery', 'journal_rows', 'crash_rows', 'journal_times', 'engine', 'seeded', 'cursor'}
+TESTS = {'base_tests', 'log_tests', 'worked_rows', 'redo_tests', 'restart_tests', 'recovery_tests', 'row_files', 'workloads', 'audit_times'}
+JOURNAL = {'journal', 'journal_recovery', 'journal_tests', 'crash_tests', 'journal_times', 'engine', 'seeded', 'cursor'}
 
 # what a method stands for in a file (or in all files of a crate: `crate/`), where std has one of that name too
 METHODS = '''

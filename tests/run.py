@@ -25,7 +25,7 @@ Check = namedtuple("Check", "name module function takes needs looks_for")
 NOTHING, ROOM, C = "nothing", "a folder", "the library for C"
 CHECKS = [Check(*row) for row in (
     ("documents", "documents", "check_documents", NOTHING, "", "links, README's code, tables of faults and rows"),
-    ("contracts", "contracts", "check_contracts", NOTHING, "", "docs/CONTRACTS.md, and what docs/PROOFS.md cites"),
+    ("contracts", "contracts", "check_contracts", NOTHING, "", "what docs/PROOFS.md cites, and lemmas that nothing names"),
     ("clauses", "clauses", "check_clauses", NOTHING, "", "clauses that are too long"),
     ("sizes", "sizes", "check_sizes", NOTHING, "", "numbers in place of the names of sizes"),
     ("pages", "pages", "check_pages", NOTHING, "", "the man pages and --help"),
@@ -53,7 +53,7 @@ CHECKS = [Check(*row) for row in (
     ("borrow", "borrow", "check_borrow", ROOM, "wal", "views of a log that live too long"),
     ("chosen", "chosen", "check_chosen", ROOM, "aries_cli", "audits of chosen numbers"),
     ("prints", "recoveries", "check_prints", ROOM, "aries_cli", "prints that fail"),
-    ("refusals", "recoveries", "check_refusals", ROOM, "aries_cli rows", "growths of memory that are refused"),
+    ("refusals", "recoveries", "check_refusals", ROOM, "aries_cli row_files", "growths of memory that are refused"),
     ("dump", "dump", "check_dump", ROOM, "aries_dump", "aries_dump"),
     ("c-names", "embed", "names_of_c", C, "", "the header in each language"),
     ("c-header", "embed", "header", C, "library", "every call of the header"),
