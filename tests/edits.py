@@ -84,10 +84,10 @@ PROMISED = {
 
 # Those that no contract refuses, and the tests that fail with them.
 TESTED = {
-    "always-no-resource": [("rows", "run_line")],
-    "no-flush": [("recovery_rows", "one_loser_over_devices"), ("base_rows", "flush_fails")],
-    "stop-own-notes": [("base_rows", "stop_seen")],
-    "workers-in-turn": [("redo_rows", "the_gate_hears_who_draws_what"), ("recovery_rows", "the_gate_hears_who_draws_what")],
+    "always-no-resource": [("row_files", "run_line")],
+    "no-flush": [("recovery_tests", "one_loser_over_devices"), ("base_tests", "flush_fails")],
+    "stop-own-notes": [("base_tests", "stop_seen")],
+    "workers-in-turn": [("redo_tests", "the_gate_hears_who_draws_what"), ("recovery_tests", "the_gate_hears_who_draws_what")],
 }
 
 
