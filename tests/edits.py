@@ -175,7 +175,7 @@ def try_edits(crate, kinds):
 
 
 def try_others(crate):
-    """Tries the edits of a crate that the gate does not try, and keeps that each was refused; whether it was. The line is that of the sources that were tried."""
+    """Tries the edits of a crate that the gate does not try; whether each was refused. If so, that is kept of the sources as they were before."""
     line = tried.line_of(crate)
     is_refused = try_edits(crate, [OTHERS])
     if is_refused:
@@ -184,7 +184,7 @@ def try_others(crate):
 
 
 def check_other_edits(tally):
-    """Tries the edits that the gate does not try, of each crate that differs from its line in edits/tried.txt. The list stays as it is: a test changes no file."""
+    """Tries the edits that the gate does not try, of each crate that differs from its line in edits/tried.txt. A test does not change that list."""
     reasons, refused = dict(tried.to_try()), []
     if not reasons:
         tally.say(f"{tried.KEPT}: nothing differs", True)

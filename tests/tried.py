@@ -2,9 +2,9 @@
 
     NAME SOURCES EDITS
 
-where SOURCES is the sum of what the crate says (src/*.rt and specs/*.antt) and EDITS that of its files edits/NAME/*.edit. What changes no promise is left out of
-the first sum: comments, empty lines, white space at the ends of lines, and lines that only import. As long as both sums are the same, the prover need not try these
-edits again. A sum is the beginning of a sha256. tests/edits.py writes the lines.
+where SOURCES is the sum of what the crate says (src/*.rt and specs/*.antt) and EDITS that of its files edits/NAME/*.edit. What changes no promise is left out
+of the first sum: comments, empty lines, white space at the ends of lines, and lines that only import. As long as both sums are the same, the prover need not
+try these edits again. A sum is the beginning of a sha256. tests/edits.py writes the lines.
 """
 import glob
 import hashlib
