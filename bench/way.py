@@ -3,7 +3,8 @@
 
     python3 bench/way.py [WAY] [-v]     all ways, or those whose names have WAY in them; -v lists the functions
 
-The status is 1 where a way has more functions than its limit.
+The status is 1 where a way has more functions than its limit. The limits may only fall: where a way has fewer, the last line
+asks for the limit to be lowered.
 
 Nothing is run. A call of a free function is resolved by the `use` lines of its file, one of `Type::name` or `module::name`
 by that name. A method is looked up in METHODS, by the longest file name that fits; one that is not there is taken if a
@@ -14,9 +15,11 @@ import os, re, sys
 from collections import defaultdict, deque
 
 CRATES = os.path.join(os.path.dirname(os.path.dirname(os.path.abspath(__file__))), 'crates')
-# the crates that no run of these ways goes through: tests, the journal, and a log that is read record by record
-TESTS = {'base_rows', 'log_rows', 'core_rows', 'redo_rows', 'restart_rows', 'recovery_rows', 'rows', 'workloads', 'audit_times'}
-JOURNAL = {'journal', 'journal_recovery', 'journal_rows', 'crash_rows', 'journal_times', 'engine', 'seeded', 'cursor'}
+# the crates that no run of these ways goes through: tests, programs over the journal, and a log that is read record by record
+TESTS = {'base_tests', 'log_tests', 'worked_rows', 'redo_tests', 'restart_tests', 'recovery_tests', 'row_files', 'workloads', 'audit_times'}
+OVER_JOURNAL = {'journal_recovery', 'journal_tests', 'crash_tests', 'journal_times', 'engine', 'seeded', 'cursor'}
+# the crates that no recovery goes through: a method of theirs is only looked for in files of theirs
+APART = {'journal'}
 
 # what a method stands for in a file (or in all files of a crate: `crate/`), where std has one of that name too
 METHODS = '''
@@ -140,6 +143,9 @@ device/again.rt          read_at   FileSource::read_at
 words/refusal.rt         number    Fault::number
 words/fault.rt           number    Fault::number
 redo/unthreaded.rt       by_number Parting::by_number
+journal/operations.rt    cell      PageEntry::cell
+journal/page_entry.rt    change    PageEntry::change
+journal/framing.rt       bytes     Image::bytes
 '''
 
 IN_STD = set('''len get push append new join from finish end begin last take read write flush start body base image bytes
@@ -162,7 +168,7 @@ CUTS = {
     'a large store': 'recovery/copying.rt:recover_copying recovery/by_pieces.rt:recover_by_pieces recovery/log_again.rt:read_store_first',
     'a recovery': 'aries/files.rt:audit_files aries/files.rt:read_file aries/program.rt:run_audit command/job.rt:audit_job',
     'new files': '''aries/in_place.rt aries/names.rt aries/left.rt aries/new_tail.rt recovery/in_place.rt recovery/tail_file.rt
-        aries/program.rt:name_and_run aries/program.rt:text_of LogBytes::sum_of_end LogBytes::torn_of LogBytes::sum''',
+        aries/program.rt:name_and_run aries/program.rt:text_of LogBytes::sum_of_end LogBytes::sum''',
     'in place': '''aries/program.rt:run_recovery aries/left.rt:continue_again NewTail::keep NewTail::torn NewTail::write_whole
         job_files/notices.rt''',
     'in pieces': 'recovery/devices.rt:recover recovery/in_place.rt:recover_in_place',
@@ -197,6 +203,8 @@ WAYS = [
     ('aries_recover (C)', 164, 'aries_c/recovered.rt:aries_recover', FEW + ['no threads']),
     ('audit, with a checkpoint', 236, 'aries_cli/main.rt:main', ['nothing fails', 'an audit']),
     ('aries_dump log', 157, 'aries_dump/main.rt:main', ['nothing fails', 'a log']),
+    ('Journal::update', 48, 'journal/owned.rt:Journal::update', ['nothing fails']),
+    ('journal::update, over arrays', 37, 'journal/operations.rt:update', ['nothing fails']),
 ]
 
 FUNCTION = re.compile(r'^( *)((?:pub(?:\([a-z]+\))? )?(?:const )?(?:unsafe )?(?:extern "C" )?fn )(\w+)')
@@ -240,7 +248,7 @@ class Function:
 
 def read_all():
     files = [os.path.join(crate, os.path.relpath(os.path.join(folder, name), os.path.join(CRATES, crate, 'src')))
-             for crate in sorted(os.listdir(CRATES)) if crate not in TESTS | JOURNAL
+             for crate in sorted(os.listdir(CRATES)) if crate not in TESTS | OVER_JOURNAL
              for folder, _, names in os.walk(os.path.join(CRATES, crate, 'src'))
              for name in sorted(names) if name.endswith('.rt')]
     return files, [Function(file, *found) for file in files for found in functions_of(file)]
@@ -312,7 +320,7 @@ def method(caller, name):
     places = [place for place, known in TABLE if known == name and caller.file.startswith(place)]
     if places:
         return TABLE[max(places, key=len), name]
-    those = OWNED[name]
+    those = [f for f in OWNED[name] if f.crate not in APART or f.crate == caller.crate]
     return those if len(those) == 1 and name not in IN_STD else []
 
 
@@ -348,7 +356,7 @@ def way(start, cuts):
 
 
 def main():
-    words, is_well = [word for word in sys.argv[1:] if word != '-v'], True
+    words, is_well, lower = [word for word in sys.argv[1:] if word != '-v'], True, []
     for name, most, start, cuts in WAYS:
         if words and words[0] not in name:
             continue
@@ -356,9 +364,12 @@ def main():
         is_well = is_well and len(seen) <= most
         files = sorted({f.file for f in seen})
         print(f'{name}: {len(seen)} functions (at most {most}), {len(files)} files, {len({f.crate for f in seen})} crates')
+        if len(seen) < most:
+            lower.append(f'{name}: {len(seen)} in place of {most}')
         if '-v' in sys.argv:
             for file in files:
                 print(f'    {file}:', ', '.join(f'{f.owner}::{f.name}' if f.owner else f.name for f in seen if f.file == file))
+    print(*(f'KEEP the limit of {way}' for way in lower), sep='\n', end='\n' if lower else '')
     return 0 if is_well else 1
 
 

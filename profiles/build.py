@@ -19,7 +19,7 @@ sys.dont_write_bytecode = True  # no folder of it beside the scripts
 from row_files import PROFILE, TOP, number_in, wrong_rows
 
 PROGRAMS = ("aries_cli", "aries_dump")
-ROW_RUNNER, LIBRARY = "rows", "aries_c"
+ROW_RUNNER, LIBRARY = "row_files", "aries_c"
 KILLS = 300  # of the bank
 HEADER = "include/aries.h"
 # The sizes that the header has, by their names in a profile. It makes its other sizes of these.

@@ -1,4 +1,4 @@
-"""The worked rows with the limits of another profile: their files have its magics and its pages, and the program `rows`, built with it, runs them.
+"""The worked rows with the limits of another profile: their files have its magics and its pages, and the program `row_files`, built with it, runs them.
 
 A row that speaks of a limit is left out. A page of another profile has the same bytes at its front: its number, its PageLSN, its directory, and its
 values one after another. More zeros follow.
@@ -10,7 +10,7 @@ import subprocess
 
 TOP = os.path.dirname(os.path.dirname(os.path.abspath(__file__)))
 PROFILE = "crates/page/src/profile.rt"
-ROWS = "crates/rows"
+ROWS = "crates/row_files"
 STORE_HEADER_BYTES = 24
 
 # Rows whose result is another one with other limits: a table with one entry too many, a value of 49 bytes, a length of a frame that is too large.
@@ -84,7 +84,7 @@ def make_rows(folder, profile):
 
 
 def wrong_rows(program, folder, profile):
-    """Runs the program `rows` on the rows with this profile. Returns how many lines it printed, and those that are not as they are to be."""
+    """Runs the program `row_files` on the rows with this profile. Returns how many lines it printed, and those that are not as they are to be."""
     make_rows(folder, profile)
     ran = subprocess.run([program], cwd=folder, capture_output=True, text=True)
     printed, wanted = ran.stdout.splitlines(), kept_lines("stdout")

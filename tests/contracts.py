@@ -1,9 +1,12 @@
 #!/usr/bin/env python3
-"""Makes docs/CONTRACTS.md, the list of public functions with the labels of their clauses, of definitions and of lemma files; and checks
-that docs/PROOFS.md cites only what exists.
+"""Lists contracts, and checks that docs/PROOFS.md cites only what exists.
 
-usage: tests/contracts.py --write   at the top of the repository: writes docs/CONTRACTS.md
-       tests/run.py                 fails if docs/CONTRACTS.md is not what this script writes, or docs/PROOFS.md cites a name that is not there
+usage: tests/contracts.py --print [CRATE..]   at the top of the repository: what these crates have, or all
+       tests/run.py contracts                 fails if docs/PROOFS.md cites a name that is not there, or tests/lemmas.py finds a name that nothing uses
+
+For each crate, from the lowest to the highest, it prints the functions that other crates can call with the labels of the clauses that they ensure (`=` is a
+clause without a label, usually that the result is exactly a given value); the first line of each file of definitions and of lemmas; and for each public
+theorem, which is a function of `laws.rt` that is proved and does nothing, the files of lemmas that its proof cites directly.
 """
 import glob
 import os
@@ -11,29 +14,17 @@ import re
 import sys
 
 sys.dont_write_bytecode = True  # no folder of it beside the tests
+from lemmas import check_lemmas
 from program import TOP, text_of
 
-MADE = "docs/CONTRACTS.md"
 CITING = "docs/PROOFS.md"
-HEAD = """# Contracts, definitions and lemmas
-
-`python3 tests/contracts.py --write` makes this list from the source, and the full test run fails if it is out of date.
-[PROOFS](PROOFS.md) says which promises matter to a user. For each crate, from the lowest to the highest, the list has:
-
-- the functions that other crates can call, with the labels of the clauses that they ensure (`=` is a clause without a
-  label, usually that the result is exactly a given value);
-- the definitions that clauses use, file by file: the first line of each file of `specs/`;
-- the files of lemmas, with the first line of each file of `proofs/`;
-- for each public theorem (a function of `laws.rt`, which is proved and does nothing), the files of lemmas that its
-  proof cites directly.
-"""
 
 
 def crates():
     """The names of the libraries, from the lowest to the highest, without those that only test."""
     names = re.findall(r"^(\w+)[^:\n]*:", text_of("crates.txt"), re.M)
     libraries = [name for name in names if os.path.exists(os.path.join(TOP, f"crates/{name}/src/lib.rt"))]
-    return [name for name in libraries if not name.endswith("rows") and name != "workloads"]
+    return [name for name in libraries if not name.endswith(("_tests", "_rows")) and name != "workloads"]
 
 
 def modules(crate):
@@ -106,16 +97,17 @@ def coded(names):
     return ", ".join(f"`{name}`" for name in names)
 
 
-def made():
-    lines = [HEAD]
-    for crate in crates():
+def listed(names):
+    """What these crates have, in tables."""
+    lines = []
+    for crate in names:
         parts = table(("function", "clauses"), ((name, coded(labels)) for name, labels in functions(crate) if labels))
-        parts += table(("definitions", "what they say"), ((name, said.replace("|", "\\|")) for name, said in first_lines(crate, "specs")))
-        parts += table(("lemmas", "what they are about"), ((name, said.replace("|", "\\|")) for name, said in first_lines(crate, "proofs")))
+        parts += table(("definitions", "what they say"), first_lines(crate, "specs"))
+        parts += table(("lemmas", "what they are about"), first_lines(crate, "proofs"))
         parts += table(("theorem", "cites"), ((name, coded(files)) for name, files in cited_by_theorems(crate) if files))
         if parts:
             lines += [f"## `{crate}`", "", *parts]
-    return "\n".join(lines).rstrip() + "\n"
+    return "\n".join(lines).rstrip()
 
 
 def promises():
@@ -152,15 +144,22 @@ def wrong_definitions(cell):
 
 
 def check_contracts(tally):
-    tally.say(f"{MADE} is what tests/contracts.py makes", os.path.exists(os.path.join(TOP, MADE)) and text_of(MADE) == made())
     known = {crate: dict(functions(crate)) for crate in crates()}
     rows = list(promises())
     wrong = [name for clauses, definitions in rows for name in [*wrong_clauses(clauses, known), *wrong_definitions(definitions)]]
     tally.say(f"{CITING} cites what exists, {len(rows)} promises", rows and not wrong, ", ".join(wrong))
+    check_lemmas(tally)
+
+
+def main():
+    words = sys.argv[1:]
+    names = words[1:] or crates()
+    if words[:1] != ["--print"] or any(name not in crates() for name in names):
+        print(f"{__doc__}\ncrates: {' '.join(crates())}", file=sys.stderr)
+        return 2
+    print(listed(names))
+    return 0
 
 
 if __name__ == "__main__":
-    if "--write" not in sys.argv:
-        sys.exit(__doc__)
-    with open(os.path.join(TOP, MADE), "w", encoding="utf-8") as file:
-        file.write(made())
+    sys.exit(main())

@@ -8,14 +8,14 @@ from program import SMALL_ROWS, TOP, run, text_of
 
 
 def documents():
-    yield from ("README.md", "CONTRIBUTING.md", "CHANGELOG.md", "crates/rows/data/README.md")
+    yield from ("README.md", "CONTRIBUTING.md", "CHANGELOG.md", "crates/row_files/data/README.md")
     yield from ("tests/README.md", "bench/NOTES.md", "examples/bank/README.md", "examples/own_log/README.md", "bindings/rust/README.md")
     yield from (os.path.join("docs", name) for name in sorted(os.listdir(os.path.join(TOP, "docs"))) if name.endswith(".md"))
 
 
 def is_readme_code_tested():
     """Whether each part of the code in README is in a file whose function the tests of its crate call."""
-    tested = text_of("crates/recovery_rows/src/in_memory.rt") + text_of("crates/journal_rows/src/tests/readme.rt")
+    tested = text_of("crates/recovery_tests/src/in_memory.rt") + text_of("crates/journal_tests/src/tests/readme.rt")
     shown = re.findall(r"```rust\n(.*?)```", text_of("README.md"), re.S)
     return bool(shown) and all(part.strip() in tested for code in shown for part in code.split("\n\n"))
 
@@ -43,9 +43,9 @@ def check_documents(tally):
     for document in documents():
         tally.say(f"links of {document}", not broken_links(document), broken_links(document))
     tally.say("faults in docs/FORMATS.md", faults_of_the_documents() == faults_of_the_source())
-    listed = re.findall(r"^\| `([\w-]+)` \|", text_of("crates/rows/data/README.md").partition("## The rows")[2], re.M)
+    listed = re.findall(r"^\| `([\w-]+)` \|", text_of("crates/row_files/data/README.md").partition("## The rows")[2], re.M)
     folders = [name for name in sorted(os.listdir(SMALL_ROWS)) if os.path.isdir(os.path.join(SMALL_ROWS, name))]
-    tally.say("rows in crates/rows/data/README.md", listed == folders, set(listed) ^ set(folders))
+    tally.say("rows in crates/row_files/data/README.md", listed == folders, set(listed) ^ set(folders))
 
 
 def check_instructions(tally):
@@ -57,8 +57,9 @@ def check_instructions(tally):
 
 
 def check_ways(tally):
-    ways = run([sys.executable, os.path.join(TOP, "bench/way.py")])
+    ways = run([sys.executable, os.path.join(TOP, "bench/way.py")], text=True)
     tally.say("no way through the crates is longer than it is to be", ways.returncode == 0, ways.stdout)
+    tally.asked += [f"bench/way.py: {line}" for line in ways.stdout.splitlines() if line.startswith("KEEP")]
 
 
 def check_profile(tally):

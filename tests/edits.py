@@ -1,13 +1,18 @@
 #!/usr/bin/env python3
 """Tries the wrong bodies that the prover must refuse: those that the gate tries, crates/NAME/must-fail/*.edit, and the others, edits/NAME/*.edit.
 
-usage: tests/edits.py [--others] NAME..   at the top of the repository: tries those of these crates; with --others only those that the gate does not try
-       tests/run.py                       sees that each edit can be applied
+usage: tests/edits.py NAME..            at the top of the repository: tries both kinds of these crates
+       tests/edits.py --others NAME..   tries only those that the gate does not try, and keeps in edits/tried.txt that each was refused
+       tests/edits.py --all             does that for all crates
+       tests/edits.py --keep NAME..     writes the lines of these crates without trying; only after all of them were refused
+       tests/run.py edits               sees that each edit can be applied
+       tests/run.py other-edits         tries those that the gate does not try, of the crates that differ from their lines in edits/tried.txt
 
 An edit counts as refused only if a contract refuses it. One that the prover refuses for a name or a form says nothing of a contract and counts as bad: a proof
 file names what the edit took away, a function has no proof for its form, the text cannot be read, or the prover stopped at a limit. Prints a line for each edit
 and one for each crate; the status is 1 if one edit is bad or not refused. Trying takes a check of the crate and half a minute or more for each edit.
 """
+import argparse
 import glob
 import os
 import re
@@ -17,7 +22,10 @@ import sys
 import tempfile
 
 sys.dont_write_bytecode = True  # no folder of it beside the tests
+import tried
 from program import TOP
+
+GATE, OTHERS = "crates/*/must-fail", "edits/*"
 
 
 def changes_of(edit):
@@ -76,18 +84,18 @@ PROMISED = {
 
 # Those that no contract refuses, and the tests that fail with them.
 TESTED = {
-    "always-no-resource": [("rows", "run_line")],
-    "no-flush": [("recovery_rows", "one_loser_over_devices"), ("base_rows", "flush_fails")],
-    "stop-own-notes": [("base_rows", "stop_seen")],
-    "workers-in-turn": [("redo_rows", "the_gate_hears_who_draws_what"), ("recovery_rows", "the_gate_hears_who_draws_what")],
+    "always-no-resource": [("row_files", "run_line")],
+    "no-flush": [("recovery_tests", "one_loser_over_devices"), ("base_tests", "flush_fails")],
+    "stop-own-notes": [("base_tests", "stop_seen")],
+    "workers-in-turn": [("redo_tests", "the_gate_hears_who_draws_what"), ("recovery_tests", "the_gate_hears_who_draws_what")],
 }
 
 
 def check_promised(tally):
     """Sees that the gate tries each wrong body that a promise names, and that the tests are there that catch the others."""
     wanted = {(crate, f"{name}.edit") for crate, names in PROMISED.items() for name in names}
-    tried = {(crate, os.path.basename(edit)) for crate, edit in edits_in("crates/*/must-fail")}
-    tally.say("each wrong body that a promise names is tried", wanted <= tried, sorted(wanted - tried))
+    there = {(crate, os.path.basename(edit)) for crate, edit in edits_in(GATE)}
+    tally.say("each wrong body that a promise names is tried", wanted <= there, sorted(wanted - there))
     for name, tests in TESTED.items():
         missing = [f"{crate}::{test}" for crate, test in tests if not has_function(crate, test)]
         tally.say(f"the wrong body {name} has its tests", not missing, missing)
@@ -105,10 +113,10 @@ def has_function(crate, name):
 def check_edits(tally):
     """Sees that each edit can be applied, and that none has the name of another of its crate."""
     check_promised(tally)
-    tried, others = list(edits_in("crates/*/must-fail")), list(edits_in("edits/*"))
-    faults = [f"{os.path.relpath(edit, TOP)}: {why}" for crate, edit in tried + others if (why := cannot_be_applied(crate, edit))]
-    tally.say("each wrong body can be applied", tried and others and not faults, "; ".join(faults))
-    names = [(crate, os.path.basename(edit)) for crate, edit in tried + others]
+    of_gate, others = list(edits_in(GATE)), list(edits_in(OTHERS))
+    faults = [f"{os.path.relpath(edit, TOP)}: {why}" for crate, edit in of_gate + others if (why := cannot_be_applied(crate, edit))]
+    tally.say("each wrong body can be applied", of_gate and others and not faults, "; ".join(faults))
+    names = [(crate, os.path.basename(edit)) for crate, edit in of_gate + others]
     tally.say("each wrong body has its own name", len(names) == len(set(names)))
 
 
@@ -141,14 +149,14 @@ def copied(folder, crate, kinds):
     """A copy of the repository in which these edits of the crate are those that are tried."""
     copy = os.path.join(folder, "aries")
     shutil.copytree(TOP, copy, symlinks=True, ignore=shutil.ignore_patterns(".git"), copy_function=put)
-    tried = os.path.join(copy, "crates", crate, "must-fail")
-    shutil.rmtree(tried, ignore_errors=True)
-    os.makedirs(tried)
+    room = os.path.join(copy, "crates", crate, "must-fail")
+    shutil.rmtree(room, ignore_errors=True)
+    os.makedirs(room)
     for pattern in kinds:
         for name, edit in edits_in(pattern):
             if name == crate:
-                shutil.copy(edit, tried)
-    return copy, len(os.listdir(tried))
+                shutil.copy(edit, room)
+    return copy, len(os.listdir(room))
 
 
 def try_edits(crate, kinds):
@@ -166,15 +174,56 @@ def try_edits(crate, kinds):
     return not bad and len(said) == count
 
 
+def try_others(crate):
+    """Tries the edits of a crate that the gate does not try; whether each was refused. If so, that is kept of the sources as they were before."""
+    line = tried.line_of(crate)
+    is_refused = try_edits(crate, [OTHERS])
+    if is_refused:
+        tried.keep(line)
+    return is_refused
+
+
+def check_other_edits(tally):
+    """Tries the edits that the gate does not try, of each crate that differs from its line in edits/tried.txt. A test does not change that list."""
+    reasons, refused = dict(tried.to_try()), []
+    if not reasons:
+        tally.say(f"{tried.KEPT}: nothing differs", True)
+        return
+    print(f"{sum(len(tried.others_of(crate)) for crate in reasons)} edits are to be tried, each for half a minute or more:", flush=True)
+    for crate, why in reasons.items():
+        print(f"  {len(tried.others_of(crate))} of {crate}: {why}", flush=True)
+    for crate in reasons:
+        what = f"the other edits of {crate} are refused"
+        if tally.has_tool("rt", what):
+            is_refused = try_edits(crate, [OTHERS])
+            tally.say(what, is_refused)
+            refused += [crate] if is_refused else []
+    if refused:
+        tally.asked.append(f"KEEP that these were refused: python3 tests/edits.py --keep {' '.join(refused)}")
+
+
+def asked_for():
+    parser = argparse.ArgumentParser(description="tries the wrong bodies that the prover must refuse")
+    ways = parser.add_mutually_exclusive_group()
+    ways.add_argument("--others", action="store_true", help="try only those that the gate does not try, and keep that each was refused")
+    ways.add_argument("--all", action="store_true", help="do that for all crates")
+    ways.add_argument("--keep", action="store_true", help="write the lines of these crates without trying; only after all of them were refused")
+    parser.add_argument("names", nargs="*", metavar="NAME", help="crates")
+    asked = parser.parse_args()
+    known = sorted({name for kind in ([OTHERS] if asked.others or asked.keep else [GATE, OTHERS]) for name, _ in edits_in(kind)})
+    if bool(asked.names) == asked.all or not set(asked.names) <= set(known):
+        parser.error(f"name crates, or --all alone; crates with such edits: {' '.join(known)}")
+    return asked
+
+
 def main():
-    words = sys.argv[1:]
-    kinds = ["edits/*"] if "--others" in words else ["crates/*/must-fail", "edits/*"]
-    names = [word for word in words if word != "--others"]
-    known = {name for kind in kinds for name, _ in edits_in(kind)}
-    if not names or any(name not in known for name in names):
-        print(f"usage: tests/edits.py [--others] NAME..\ncrates with such edits: {' '.join(sorted(known))}", file=sys.stderr)
-        return 2
-    return 0 if all([try_edits(name, kinds) for name in names]) else 1
+    asked = asked_for()
+    if asked.keep:
+        tried.keep(*map(tried.line_of, asked.names))
+        return 0
+    if asked.all or asked.others:
+        return 0 if all([try_others(name) for name in asked.names or tried.crates_with_others()]) else 1
+    return 0 if all([try_edits(name, [GATE, OTHERS]) for name in asked.names]) else 1
 
 
 if __name__ == "__main__":

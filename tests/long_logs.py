@@ -82,7 +82,7 @@ def offset_of(number):
 
 
 def long_row(room, torn=b"", value_of=digit, base=0):
-    """A row like those of `crates/rows/data`, in a folder of its own."""
+    """A row like those of `crates/row_files/data`, in a folder of its own."""
     folder = os.path.join(room, f"long-log-{len(torn)}-{value_of.__name__}-{base}")
     os.makedirs(folder, exist_ok=True)
     count = (UPDATES if value_of is digit else UPDATES_LIKE_FRAMES) + 3

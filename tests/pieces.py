@@ -179,7 +179,7 @@ def damaged():
 
 
 def small_rows():
-    """The rows of crates/rows."""
+    """The rows of crates/row_files."""
     for name in sorted(os.listdir(SMALL_ROWS)):
         files = [os.path.join(SMALL_ROWS, name, file) for file in ("log", "store")]
         if all(os.path.exists(file) for file in files):

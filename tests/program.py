@@ -11,9 +11,9 @@ def program_of(crate):
     return os.environ.get(f"PROGRAM_OF_{crate}") or os.path.join(TOP, f"crates/{crate}/out/{crate}")
 
 
-ARIES, DUMP, ENGINE, ROW_RUNNER = (program_of(crate) for crate in ("aries_cli", "aries_dump", "engine", "rows"))
+ARIES, DUMP, ENGINE, ROW_RUNNER = (program_of(crate) for crate in ("aries_cli", "aries_dump", "engine", "row_files"))
 LARGE_ROWS = os.path.join(TOP, "tests/rows")
-SMALL_ROWS = os.path.join(TOP, "crates/rows/data")
+SMALL_ROWS = os.path.join(TOP, "crates/row_files/data")
 
 
 def text_of(path):

@@ -78,7 +78,7 @@ def paragraphs_of_comments(pattern, text):
 def sources():
     """Of each group its files, each with its paragraphs."""
     documents = ["README.md", "CONTRIBUTING.md", "CHANGELOG.md", *sorted(glob.glob("docs/*.md", root_dir=TOP))]
-    documents += ["bench/NOTES.md", "examples/bank/README.md", "examples/own_log/README.md", "bindings/rust/README.md", "crates/rows/data/README.md", "edits/README.md"]
+    documents += ["bench/NOTES.md", "examples/bank/README.md", "examples/own_log/README.md", "bindings/rust/README.md", "crates/row_files/data/README.md", "edits/README.md"]
     yield from (("documents", name, paragraphs_of_markdown(text_of(name))) for name in documents)
     yield from (("man", name, paragraphs_of_man(text_of(name))) for name in sorted(glob.glob("man/*", root_dir=TOP)))
     for name in ("include/aries.h", "bindings/c/aries_files.h"):

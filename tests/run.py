@@ -7,7 +7,7 @@ usage: tests/run.py [--list] [--program FILE] [--dump FILE] [--library FOLDER] [
 Without options this runs each check, after `rt ci`, which builds what they need. `--list` prints their names and what each looks for. With a program, a dump
 or a library of your own, proved or not, the checks that need something else are left out. A name picks one check, or all whose names begin with it and a
 hyphen, such as `c`. Prints a line for each thing that was looked at, and at last `N passed, N failed`, and how many were skipped; the status is 1 if one
-failed. Takes python3 and cc. What needs valgrind, groff, pkg-config, cmake or cargo is skipped if that is missing.
+failed. Takes python3 and cc. What needs valgrind, groff, pkg-config, cmake, cargo or rt is skipped if that is missing.
 """
 import argparse
 import importlib
@@ -25,11 +25,12 @@ Check = namedtuple("Check", "name module function takes needs looks_for")
 NOTHING, ROOM, C = "nothing", "a folder", "the library for C"
 CHECKS = [Check(*row) for row in (
     ("documents", "documents", "check_documents", NOTHING, "", "links, README's code, tables of faults and rows"),
-    ("contracts", "contracts", "check_contracts", NOTHING, "", "docs/CONTRACTS.md, and what docs/PROOFS.md cites"),
+    ("contracts", "contracts", "check_contracts", NOTHING, "", "what docs/PROOFS.md cites, and lemmas that nothing names"),
     ("clauses", "clauses", "check_clauses", NOTHING, "", "clauses that are too long"),
     ("sizes", "sizes", "check_sizes", NOTHING, "", "numbers in place of the names of sizes"),
     ("pages", "pages", "check_pages", NOTHING, "", "the man pages and --help"),
     ("edits", "edits", "check_edits", NOTHING, "", "whether each edit can be applied"),
+    ("other-edits", "edits", "check_other_edits", NOTHING, "", "the edits in edits/ of the crates that changed"),
     ("prose", "prose", "check_prose", NOTHING, "", "what readers stumble over"),
     ("ways", "documents", "check_ways", NOTHING, "", "how many functions a job goes through"),
     ("profile", "documents", "check_profile", NOTHING, "page", "the limits of another profile"),
@@ -53,7 +54,7 @@ CHECKS = [Check(*row) for row in (
     ("borrow", "borrow", "check_borrow", ROOM, "wal", "views of a log that live too long"),
     ("chosen", "chosen", "check_chosen", ROOM, "aries_cli", "audits of chosen numbers"),
     ("prints", "recoveries", "check_prints", ROOM, "aries_cli", "prints that fail"),
-    ("refusals", "recoveries", "check_refusals", ROOM, "aries_cli rows", "growths of memory that are refused"),
+    ("refusals", "recoveries", "check_refusals", ROOM, "aries_cli row_files", "growths of memory that are refused"),
     ("dump", "dump", "check_dump", ROOM, "aries_dump", "aries_dump"),
     ("c-names", "embed", "names_of_c", C, "", "the header in each language"),
     ("c-header", "embed", "header", C, "library", "every call of the header"),

@@ -128,7 +128,7 @@ class Driver:
         return printed
 
     def killed_at_time(self, words, lines):
-        """The lines of the bank, killed some time after so many of them."""
+        """The lines of the bank, killed some time after this many of them."""
         process = self.started(words)
         first = [line for _, line in zip(range(lines), process.stdout)]
         time.sleep(self.random.uniform(0, 0.01 if lines else self.opening_seconds))

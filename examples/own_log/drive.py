@@ -48,7 +48,7 @@ class Driver:
         return held
 
     def work(self):
-        """The commands of a run, and what is held after so many commits."""
+        """The commands of a run, and what is held after this many commits."""
         lines, states = [], [self.held]
         for _ in range(TRANSACTIONS):
             held = self.changed(states[-1], lines)

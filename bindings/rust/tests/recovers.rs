@@ -10,7 +10,7 @@ impl Row {
     fn of(name: &str) -> Self {
         Self(
             PathBuf::from(env!("CARGO_MANIFEST_DIR"))
-                .join("../../crates/rows/data")
+                .join("../../crates/row_files/data")
                 .join(name),
         )
     }

@@ -1,9 +1,7 @@
 -- Entries that are kept aside.
-use Rattle.std.proofs.Common.{◌≡◌, ℕ, zero, suc, replicate, ◌%◌, ◌+◌, ◌<◌, ◌≤◌, cond, eqb, List, [], ◌∷◌, ◌++◌, Option, Some, None, length, get_or, set, refl, sym, ap, ◌∙◌, inl, inr, arith, eq-eqb, ne_eqb}
+use Rattle.std.proofs.Common.{◌≡◌, ℕ, zero, suc, replicate, ◌%◌, ◌+◌, ◌<◌, ◌≤◌, cond, eqb, List, [], ◌∷◌, ◌++◌, Option, Some, None, length, get_or, refl, sym, ap, ◌∙◌, inl, inr, arith, eq-eqb, ne_eqb}
 use Rattle.std.proofs.lemmas.Bool.{cases_eq}
-use Rattle.std.proofs.lemmas.List.{get_or-set_same, get_or-set_other}
 use Rattle.std.proofs.Math.Nat.{mod-lt}
-use Rattle.std.proofs.lemmas.Option.{same_Some}
 use Rattle.log_laws.specs.Records.{TableEntry}
 use Rattle.wal.specs.declared.record.Entry.{Entry}
 use Rattle.wal.specs.Content.{entry_of}
@@ -39,9 +37,6 @@ empty_at : (n k : ℕ) → get_or (replicate {A = Option (ℕ × Entry)} n None)
 empty_at zero k = refl
 empty_at (suc n) zero = refl
 empty_at (suc n) (suc k) = empty_at n k
-
-pub none_held : (t : ℕ) (entries : List (ℕ × Entry)) → held_entry t (replicate PLACES None) entries ≡ entry_at t entries
-none_held t entries = held_none t (replicate PLACES None) entries (t % PLACES) refl (empty_at PLACES (t % PLACES))
 
 pub none_kept : AreKept (replicate PLACES None)
 none_kept place p is = absurd (none (sym (empty_at PLACES place) ∙ is))
@@ -90,12 +85,6 @@ pub held_is : (t : ℕ) (kept : Slots) (entries : List (ℕ × Entry)) → AreKe
 held_is t kept entries are = held_from t 0 (t % PLACES) kept entries (omega arith) (λ i p is. are i p is ∙ omega arith)
 
 -- MOVED
-pub moved_none : (tx : ℕ) (kept : Slots) (entries : List (ℕ × Entry)) → get_or kept (tx % PLACES) None ≡ None → IsMoved tx kept entries entries
-moved_none tx kept entries is = record { here = λ t ne at. sym (held_none t kept entries (tx % PLACES) at is); elsewhere = λ t ne. refl }
-
-pub moved_own : (tx : ℕ) (kept : Slots) (entries : List (ℕ × Entry)) (p : ℕ × Entry) → get_or kept (tx % PLACES) None ≡ Some p → p.0 ≡ tx → IsMoved tx kept entries entries
-moved_own tx kept entries p is own = record { here = λ t ne at. sym (held_other t kept entries (tx % PLACES) p at is (λ e. ne (e ∙ own))); elsewhere = λ t ne. refl }
-
 pub moved_other : (tx : ℕ) (kept : Slots) (old new : List (ℕ × Entry)) (p : ℕ × Entry) → AreKept kept → get_or kept (tx % PLACES) None ≡ Some p
     → ((t : ℕ) → entry_at t new ≡ cond (eqb p.0 t) (Some (entry_of (t, p.1))) (entry_at t old)) → IsMoved tx kept old new
 moved_other tx kept old new p are is put = record {
@@ -108,58 +97,7 @@ moved_other tx kept old new p are is put = record {
 pub within : (tx : ℕ) (kept : Slots) → length kept ≡ PLACES → tx % PLACES < length kept
 within tx kept count = let some : 0 < PLACES = omega arith in omega (arith, count, mod-lt tx some)
 
-pub keep_are : (tx : ℕ) (entry : Entry) (kept : Slots) → length kept ≡ PLACES → AreKept kept → AreKept (set kept (tx % PLACES) (Some (tx, entry)))
-keep_are tx entry kept count are place p is =
-    elim (cases_eq place (tx % PLACES)) [
-      | inl e ↦
-          (let own : Some (tx, entry) ≡ Some p = sym (get_or-set_same kept (tx % PLACES) (Some (tx, entry)) None (within tx kept count)) ∙ (ap (λ i. get_or (set kept (tx % PLACES) (Some (tx, entry))) i None) (sym e) ∙ is) in
-          ap (λ n. n % PLACES) (sym (number own)) ∙ sym e)
-      | inr ne ↦ are place p (sym (get_or-set_other kept (tx % PLACES) place (Some (tx, entry)) None ne) ∙ is)
-    ]
-  where
-    number : {a b : ℕ × Entry} → Some a ≡ Some b → a.0 ≡ b.0
-    number e = ap (λ (x : ℕ × Entry). x.0) (same_Some _ _ e)
-
-pub forget_are : (place : ℕ) (kept : Slots) → place < length kept → AreKept kept → AreKept (set kept place None)
-forget_are place kept lt are other p is =
-    elim (cases_eq other place) [
-      | inl e ↦ absurd (none (sym (ap (λ i. get_or (set kept place None) i None) e ∙ get_or-set_same kept place None None lt) ∙ is))
-      | inr ne ↦ are other p (sym (get_or-set_other kept place other None None ne) ∙ is)
-    ]
-  where
-    none : None ≡ Some p → ⊥
-    none e = cc
-
-pub keep_held : (tx : ℕ) (entry : Entry) (kept : Slots) (old new : List (ℕ × Entry)) → length kept ≡ PLACES → IsMoved tx kept old new → (t : ℕ)
-    → held_entry t (set kept (tx % PLACES) (Some (tx, entry))) new ≡ cond (eqb tx t) (Some (entry_of (t, entry))) (held_entry t kept old)
-keep_held tx entry kept old new count moved t =
-    let now = set kept (tx % PLACES) (Some (tx, entry)) in
-    let there : get_or now (tx % PLACES) None ≡ Some (tx, entry) = get_or-set_same kept (tx % PLACES) (Some (tx, entry)) None (within tx kept count) in
-    elim (cases_eq t tx) [
-      | inl e ↦ held_own t now new (tx % PLACES) (tx, entry) (ap (λ n. n % PLACES) e) there (sym e) ∙ sym (ap (λ b. cond b (Some (entry_of (t, entry))) (held_entry t kept old)) (eq-eqb tx t (sym e)))
-      | inr ne ↦
-          (let off : cond (eqb tx t) (Some (entry_of (t, entry))) (held_entry t kept old) ≡ held_entry t kept old = ap (λ b. cond b (Some (entry_of (t, entry))) (held_entry t kept old)) (ne_eqb tx t (λ e. ne (sym e))) in
-          elim (cases_eq (t % PLACES) (tx % PLACES)) [
-            | inl at ↦ held_other t now new (tx % PLACES) (tx, entry) at there ne ∙ (moved.here t ne at ∙ sym off)
-            | inr far ↦
-                (ap (λ x. kept_entry t x (entry_at t new)) (get_or-set_other kept (tx % PLACES) (t % PLACES) (Some (tx, entry)) None far)
-                ∙ (ap (kept_entry t (get_or kept (t % PLACES) None)) (moved.elsewhere t far) ∙ sym off))
-          ])
-    ]
-
 -- FORGOTTEN
-pub forget_other : (tx : ℕ) (kept : Slots) (p : ℕ × Entry) → length kept ≡ PLACES → get_or kept (tx % PLACES) None ≡ Some p → p.0 ≡ tx → (t : ℕ) (entries : List (ℕ × Entry)) → (t ≡ tx → ⊥)
-    → held_entry t (set kept (tx % PLACES) None) entries ≡ held_entry t kept entries
-forget_other tx kept p count is own t entries ne =
-    let now = set kept (tx % PLACES) None in
-    elim (cases_eq (t % PLACES) (tx % PLACES)) [
-      | inl at ↦ held_none t now entries (tx % PLACES) at (get_or-set_same kept (tx % PLACES) None None (within tx kept count)) ∙ sym (held_other t kept entries (tx % PLACES) p at is (λ e. ne (e ∙ own)))
-      | inr far ↦ ap (λ x. kept_entry t x (entry_at t entries)) (get_or-set_other kept (tx % PLACES) (t % PLACES) None None far)
-    ]
-
-pub forget_own : (tx : ℕ) (kept : Slots) → length kept ≡ PLACES → (entries : List (ℕ × Entry)) → held_entry tx (set kept (tx % PLACES) None) entries ≡ entry_at tx entries
-forget_own tx kept count entries = held_none tx (set kept (tx % PLACES) None) entries (tx % PLACES) refl (get_or-set_same kept (tx % PLACES) None None (within tx kept count))
-
 -- taken from both, it is in neither
 pub removed : (t tx : ℕ) (kept left : Slots) (old new : List (ℕ × Entry)) → ((t : ℕ) (entries : List (ℕ × Entry)) → (t ≡ tx → ⊥) → held_entry t left entries ≡ held_entry t kept entries)
     → ((entries : List (ℕ × Entry)) → held_entry tx left entries ≡ entry_at tx entries) → ((n : ℕ) → entry_at n new ≡ cond (eqb tx n) None (entry_at n old)) → held_entry t left new ≡ cond (eqb tx t) None (held_entry t kept old)
@@ -198,9 +136,6 @@ none_above_removed tx highest old new gone up t above small =
 pub record IsBackTo (place : ℕ) (kept : Slots) (first now : List (ℕ × Entry)) : Type 0 where
   pub same : (t : ℕ) → held_entry t kept now ≡ held_entry t kept first
   pub back : (t : ℕ) → t % PLACES < place → entry_at t now ≡ held_entry t kept first
-
-pub back_begun : (kept : Slots) (first : List (ℕ × Entry)) → IsBackTo 0 kept first first
-back_begun kept first = record { same = λ t. refl; back = λ t lt. absurd (omega arith) }
 
 pub back_none : (place : ℕ) (kept : Slots) (first now : List (ℕ × Entry)) → get_or kept place None ≡ None → IsBackTo place kept first now → IsBackTo (place + 1) kept first now
 back_none place kept first now is before = record {

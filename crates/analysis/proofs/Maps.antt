@@ -1,5 +1,5 @@
 -- Maps from numbers, read key by key.
-use Rattle.std.proofs.Common.{ℕ, zero, suc, ◌≡◌, ◌<◌, ◌≤◌, Bool, true, false, cond, eqb, ltb, eq-eqb, eqb-true, ◌+◌, List, ◌∷◌, length, drop, get_or, set, replicate, drop-cons, Option, Some, None, refl, sym, ap, ap₂, ◌∙◌, arith, inl, inr}
+use Rattle.std.proofs.Common.{ℕ, zero, suc, ◌≡◌, ◌<◌, ◌≤◌, Bool, true, false, cond, eqb, ltb, eq-eqb, eqb-true, ◌+◌, List, ◌∷◌, length, drop, get_or, replicate, drop-cons, Option, Some, None, refl, sym, ap, ap₂, ◌∙◌, arith, inl, inr}
 use Rattle.std.specs.Prelude.{option_map, is_some}
 use Rattle.log_laws.specs.Records.{TableEntry, LogRecord}
 use Rattle.std.specs.Ordering.{is_eq, nat_cmp}
@@ -11,7 +11,6 @@ use Rattle.log_laws.specs.Redo.{rec_lsn_of}
 use Rattle.log_laws.specs.Checkpoint.{or_else}
 use Rattle.log_laws.specs.Undo.{entry_for}
 use Rattle.wal.proofs.Entries.{is_eq-nat_cmp, entry_for-lookup}
-use Rattle.std.proofs.lemmas.List.{get_or-set_other}
 use Rattle.tables.proofs.Lookups.{rec_lsn_of-lookup}
 use Rattle.analysis.specs.Tables.{entry_at, AreAllListed}
 use Rattle.analysis.specs.Steps.{AreListed, rec_lsn_after}
@@ -79,21 +78,6 @@ none_known n page e = (let f : get_or (replicate n false) page false ≡ false =
     never zero page = refl
     never (suc n) zero = refl
     never (suc n) (suc page) = never n page
-
--- a page that is noted as known is listed by then
-pub listed_noted : (known : List Bool) (old new : List (ℕ × ℕ)) (page lsn : ℕ) → ((p : ℕ) → rec_lsn_of p new ≡ or_else (rec_lsn_of p old) (cond (eqb page p) (Some lsn) None))
-    → AreListed known old → AreListed (set known page true) new
-listed_noted known old new page lsn step listed p noted =
-    elim (cases_Bool (eqb page p)) [
-      | inl e ↦ ap is_some (step p ∙ ap (λ b. or_else (rec_lsn_of p old) (cond b (Some lsn) None)) e) ∙ by_new (rec_lsn_of p old)
-      | inr e ↦
-          (let before : get_or known p false ≡ true = sym (get_or-set_other known page p true false (λ same. by_other same e)) ∙ noted in
-          ap is_some (step p ∙ ap (λ b. or_else (rec_lsn_of p old) (cond b (Some lsn) None)) e) ∙ by_none (rec_lsn_of p old) ∙ listed p before)
-    ]
-  where
-    by_new : (o : Option ℕ) → is_some (or_else o (Some lsn)) ≡ true
-    by_new None = refl
-    by_new (Some x) = refl
 
     by_none : (o : Option ℕ) → is_some (or_else o None) ≡ is_some o
     by_none None = refl

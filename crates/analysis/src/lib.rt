@@ -1,8 +1,24 @@
-//! Analysis: the tables of a crash, from the last checkpoint on.
+//! Analysis, the first pass of a restart: it finds the tables of a crash in a log, from the
+//! checkpoint that the store's master names up to the end.
 //!
-//! `analyse` takes a whole log. If a log is read in pieces, `CheckpointScan` finds the tables of
-//! the checkpoint. From these on `TableScan` finds the tables of the crash: the transactions with a
-//! `TransactionScan`, the pages with a `PageScan`.
+//! The door: [`analyse`] takes a whole log. If a log is read in pieces, [`CheckpointScan`] finds
+//! the tables of the checkpoint, and from these on [`TableScan`] those of the crash.
+//!
+//! The promise: on every log it finds the tables of the definition. On a lawful log and its store
+//! they list exactly the unfinished transactions, and redo by them skips no record that a page
+//! lacks.
+//!
+//! The modules, in the order of the way through it, with their definitions in `specs/`:
+//!
+//! - `pass`: both tables together (`Tables`).
+//! - `base`: the tables of the checkpoint, from which the scan begins.
+//! - `apart`, `dirty`: each table on its own, since redo needs only the pages and undo only the
+//!   transactions.
+//! - `scan`, `kept`: what one more record does to the tables, and where entries are found quickly
+//!   (`Steps`).
+//! - `checkpoint_scan`, `transaction_scan`, `page_scan`, `table_scan`: the same for a log that is
+//!   read in pieces (`Passing`).
+//! - `laws`: a log has one pair of tables, and at most one fault.
 #![tactic(auto)]
 
 mod apart;

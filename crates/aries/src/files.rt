@@ -192,8 +192,9 @@ fn empty_after(fault: Fault, new_log: io::Result<File>, new_store: io::Result<Fi
 /// folder was not synced, whole. After any other fault they are empty.
 ///
 /// A log in a regular file is read in pieces by one thread, and copied as the new log is written.
-/// Then a large store in a regular file is read in pieces too, twice. Any other log is read into
-/// memory; then one worker does all if it may and the log is short.
+/// Then a store in a regular file of more than 16 MiB is read in pieces too, twice; no store of the
+/// default profile is so large. Any other log is read into memory; then one worker does all if it
+/// may and the log is short.
 pub fn recover_files<R: Files<File = File> + Clock + Threads + Sync>(
     rt: &R,
     alloc: Global,

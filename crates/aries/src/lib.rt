@@ -1,5 +1,21 @@
-//! ARIES restart: it takes a log and a store after a crash, and makes a log, a recovered store and
-//! a report.
+//! The program `aries` without its `main`: recovery and audit of files. It also exports what an
+//! engine in Rattle needs of the crates below.
+//!
+//! The door: [`run`] for the program, and [`recover`] for an engine.
+//!
+//! The promise is that of `recovery`. Which files are opened, made, synced and renamed here, and in
+//! which order, is only tested.
+//!
+//! The modules, in the order of the way through it:
+//!
+//! - `program`: from the words to the exit status.
+//! - `files`: from two files to two files, or an audit; in memory or in pieces.
+//! - `new_file`: owners and rights of new files, and how their names reach the disk.
+//! - `in_place`: a recovery in place, which syncs what it finds, finishes it, and then recovers.
+//! - `names`: which files a run in place may change.
+//! - `left`: what an interrupted run left, and how it is finished.
+//! - `new_tail`: the file of the tail while it is written.
+//! - `verbose`: the lines on standard error, why a job failed, and with `--verbose` what it took.
 #![tactic(auto)]
 
 mod files;

@@ -1,5 +1,27 @@
-//! The functions for programs in C, and in other languages by way of C: recovery, audit and a dump
-//! of bytes, what an engine writes, and a journal that writes it.
+//! The functions for programs in C, and in other languages by way of C. They are declared in
+//! `include/aries.h`. The caller owns all buffers, and no file is touched.
+//!
+//! The door: [`aries_recover`] and [`aries_audit`] for files of an engine, and the calls
+//! `aries_journal_...` for an engine that runs.
+//!
+//! The promise: a call that returns 0 has written its result to the buffers of the caller. Any
+//! other number has its cause, and then the buffers are unchanged.
+//!
+//! The modules, in the order of the way through it, with their definitions in `specs/`:
+//!
+//! - `recovered`, `audited`: recovery and audit from buffer to buffer (`Recovered`).
+//! - `fault`, `text`: the error of a call, with its number, its place and its text (`Fault`).
+//! - `room`: buffers of the caller, which may be too short.
+//! - `image`, `record`, `checkpoint`: values, records and tables as C has them (`Image`, `Record`,
+//!   `Tables`).
+//! - `dump`: the records of a log, many at a time (`Dump`).
+//! - `marks`, `unfinished`: a log record by record, its end, and what an engine has to know that
+//!   continues it (`Marks`, `Unfinished`).
+//! - `log_writing`, `frames`, `pages`: what an engine writes without a journal, which is frames,
+//!   pages and headers (`Writing`, `LogHeader`, `Pages`).
+//! - `journal_opening`, `journaling`, `journal_disk`: a journal over arrays of the caller, how it
+//!   is opened, its operations, the disk (`Journaling`, `JournalCalls`).
+//! - `refusal`: the refusals of a journal, as C gets them.
 #![tactic(auto)]
 
 mod audited;

@@ -1,4 +1,9 @@
-//! The program `aries`: passes its words and streams to `aries::run`.
+//! The program `aries`: it passes its words and streams to [`aries::run`], which does the rest. See
+//! `crates/aries/src/program.rt`.
+//!
+//! The door: `main`.
+//!
+//! It promises nothing: `tests/run.py` tests what it prints and its exit status.
 #![tactic(auto)]
 
 use std::fs::File;

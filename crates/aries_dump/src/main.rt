@@ -1,4 +1,12 @@
-//! The program `aries_dump`: lists what a log or a store holds, one record or page a line.
+//! The program `aries_dump`: it lists what a log or a store holds, one record or page a line. It
+//! uses no crate of recovery.
+//!
+//! The door: `main`.
+//!
+//! The promise is that of `dump` for the lines. Which file is read, what is printed before a fault,
+//! and the exit status are tested.
+//!
+//! Its module is `program`: it reads the file, lists it, and prints why it ended.
 #![tactic(auto)]
 
 mod program;

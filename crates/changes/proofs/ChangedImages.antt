@@ -1,5 +1,5 @@
 -- Images of pages, changed one after the other.
-use Rattle.std.proofs.Common.{◌≡◌, ℕ, suc, ◌+◌, ◌*◌, ◌/◌, ◌<◌, ◌≤◌, List, [], ◌∷◌, ◌++◌, length, get_or, take, drop, sym, ap, ap₂, subst, ◌∙◌, arith, refl}
+use Rattle.std.proofs.Common.{◌≡◌, ℕ, suc, ◌+◌, ◌*◌, ◌/◌, ◌<◌, ◌≤◌, List, [], ◌∷◌, ◌++◌, length, get_or, take, drop, sym, ap, ap₂, subst, ◌∙◌, arith}
 use borrow.Rule.Slice.PartMut.{put_mid}
 use Rattle.std.specs.List.{flat_map}
 use Rattle.std.proofs.Math.Seq.{drop-cons}
@@ -42,9 +42,6 @@ pub record ChangedSoFar (changes : List PageChange) (first : ℕ) (old : List �
   pub front : (pages shown : List Page) → AreImagesFrom first old pages → AreChanged (drop first changes) pages shown → AreImages (take (PAGE_BYTES * place) new) (take place shown)
   pub rest : drop (PAGE_BYTES * place) new ≡ drop (PAGE_BYTES * place) old
   pub count : length new ≡ length old
-
-pub changed_none : (changes : List PageChange) (first : ℕ) (old : List ℕ) → ChangedSoFar changes first old 0 old
-changed_none changes first old = record { front = λ pages shown s c. record { text = refl; fits = λ i d lt. absurd (omega (arith, lt)) }; rest = refl; count = refl }
 
 -- the image at a place encodes the page of its number
 pub page_there : (first : ℕ) (images : List ℕ) (pages : List Page) (i : ℕ) (d : Page) → AreImagesFrom first images pages → i < length images / PAGE_BYTES

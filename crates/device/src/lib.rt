@@ -1,6 +1,23 @@
-//! Devices that bytes are read from and written to. Each may fail at any call. There are devices
-//! over memory and over files, functions that read or write everything, and, for tests, devices
-//! that fail at a chosen call.
+//! Devices: what bytes are read from and written to. Each may fail at any call. Recovery knows only
+//! their traits, so it runs over files, over memory and over devices of yours.
+//!
+//! The door: the traits [`Source`] and [`Sink`], [`Reread`] for a source that can be read again,
+//! and [`Continue`] for a log that is continued in place. [`read_all`] and [`write_all`] move all
+//! bytes.
+//!
+//! The promise: an error means that the device failed. If the contract of a device knows its bytes,
+//! it says which were read or written, and which are flushed.
+//!
+//! The modules, in the order of the way through it, with their definitions in `specs/`:
+//!
+//! - `traits`, `failures`: what a device is, and the count of its failures, which only contracts
+//!   see (`Failures`, `Continued`, `Reread`).
+//! - `transfer`, `again`: loops that read or write everything, from the current place or from an
+//!   offset (`Transfer`).
+//! - `memory`, `kept`: devices over memory (`Memory`, `Kept`).
+//! - `file`: devices over files; a flush of one also syncs the file (`Files`).
+//! - `slow`: devices for tests, which pass a few bytes a call and fail at a call chosen beforehand
+//!   (`Slow`).
 #![tactic(auto)]
 
 mod again;

@@ -1,10 +1,7 @@
 -- Where the frames of a log are in its bytes.
-use Rattle.std.proofs.Common.{ℕ, suc, ◌≡◌, ◌+◌, ◌≤◌, true, false, List, [], ◌∷◌, ◌++◌, length, refl, sym, ap, ◌∙◌, inl, inr, arith, append_assoc, append-nil, length-append}
-use Rattle.std.specs.Prelude.{nat_lt, nat_eq}
-use Rattle.std.specs.List.{starts_with}
-use Rattle.std.proofs.lemmas.Bool.{cases_Bool, false≢true, true≢false}
-use Rattle.log_laws.specs.declared.start.LogStart.{LogStart}
-use Rattle.log_laws.specs.declared.start.LogStart.TheVariants.{Version1, Version2}
+use Rattle.std.proofs.Common.{ℕ, suc, ◌≡◌, ◌+◌, ◌≤◌, List, [], ◌∷◌, ◌++◌, length, refl, sym, ap, ◌∙◌, inl, inr, arith, append_assoc, append-nil, length-append}
+use Rattle.std.specs.Prelude.{nat_lt}
+use Rattle.std.proofs.lemmas.Bool.{cases_Bool}
 use Rattle.wal.specs.Headers.{header_bytes, header_of}
 use Rattle.log_laws.specs.Records.{LogRecord, History, start, ◌▸◌, ◌▸▸◌, LogContent, history, last_lsn, lsn_before, first}
 use Rattle.wal.specs.Reads.{Reads, spellings, log_text}
@@ -12,7 +9,6 @@ use Rattle.wal.specs.Spelling.{frame}
 use Rattle.wal.proofs.Headers.{header_length}
 use Rattle.log_laws.proofs.Histories.{first_more, record_above, record_within, size_of_first}
 use Rattle.dump.specs.LogLines.{place_behind, FramesStandThere}
-use Rattle.page.specs.declared.profile.TheConstants.{BASED_LOG_MAGIC}
 
 -- BYTES
 -- a header, and the frames of a log after it
@@ -94,12 +90,3 @@ frames_stand_there bytes log torn lsn r reads there =
       is = text;
       place_is = size_of_text header before ∙ ap (λ n. place_behind n before) (header_length log.begins);
     }
-
--- HOW A LOG BEGINS
-pub in_version_2 : (begins : LogStart) (rest : List ℕ) → starts_with nat_eq (header_of begins ++ rest) BASED_LOG_MAGIC ≡ true → Version2 (lsn_before begins) ≡ begins
-in_version_2 Version1 rest e = absurd (false≢true e)
-in_version_2 (Version2 base) rest e = refl
-
-pub in_version_1 : (begins : LogStart) (rest : List ℕ) → starts_with nat_eq (header_of begins ++ rest) BASED_LOG_MAGIC ≡ false → Version1 ≡ begins
-in_version_1 Version1 rest e = refl
-in_version_1 (Version2 base) rest e = absurd (true≢false e)

@@ -1,6 +1,5 @@
 -- A map of transactions in which one was changed, or removed.
 use Rattle.std.proofs.Common.{◌≡◌, ℕ, Bool, true, false, cond, Option, Some, refl, sym, ap, ◌∙◌, eqb, eqb-true}
-use Rattle.std.specs.Prelude.{Result, Ok, Err, OnErr}
 use Rattle.journal.specs.Transactions.{Transaction}
 use Rattle.journal.specs.Transactions.{Changes, HasEntry, Noted}
 
@@ -11,14 +10,6 @@ changed_at before after tx R y c is t = by_test (eqb tx t) refl
     by_test : (b : Bool) → eqb tx t ≡ b → after t ≡ cond b (Some y) (before t)
     by_test true e = ap after (sym (eqb-true tx t e)) ∙ is
     by_test false e = c.others t e
-
-pub on_err : {T E : Type 0} {P Q : Type 0} (r : Result T E) → (P → Q) → OnErr r P → OnErr r Q
-on_err (Ok x) f h = tt
-on_err (Err e) f h = f h
-
-pub on_err_from : {T E : Type 0} {P : Type 0} (r : Result T E) → P → OnErr r P
-on_err_from (Ok x) p = tt
-on_err_from (Err e) p = p
 
 -- AN ENTRY
 pub noted : (before mid after : ℕ → Option Transaction) (tx : ℕ) (R : Transaction → Transaction → Type 0) → HasEntry before mid tx → Changes mid after tx R → Noted before after tx R

@@ -30,10 +30,6 @@ pub starts_low : (begins : LogStart) → lsn_before begins ≤ LARGEST_BASE → 
 starts_low Version1 h = tt
 starts_low (Version2 base) h = h
 
-pub low_start : (begins : LogStart) → FitsStart begins → lsn_before begins ≤ LARGEST_BASE
-low_start Version1 h = omega arith
-low_start (Version2 base) h = h
-
 start_small : (begins : LogStart) → FitsStart begins → lsn_before begins < 2 ^ 64
 start_small Version1 h = omega arith
 start_small (Version2 base) h = omega (arith, h)

@@ -170,6 +170,3 @@ module _ (base : BasePages) (run : Run) (last next : ℕ) (kept : ℕ → Option
                 (held_are r puts),
             ap (λ n. Compensation (record { tx = tx; prev = n; page = page; slot = slot; undo_next = undone.prev; image = image })) (sym prev_is),
           )
-
-pub none_newest : (ps : List Pending) → IsNewest ps None → ps ≡ []
-none_newest ps h = h

@@ -25,7 +25,7 @@ use Rattle.journal.specs.declared.entries.PendingEntry.{PendingEntry}
 use Rattle.journal.specs.Runs.{Run, count_of, log_of}
 use Rattle.journal.specs.Transactions.{IsPending, lsn_in, IsNewest}
 use Rattle.journal.specs.State.{Agrees}
-use Rattle.journal.specs.Refusals.{StepRefused, allows, EntryRefused, RefusedFor, PrepareRefused, UpdateRefused, UndoRefused, EndRefused, CellMissing, CellRefused, IsNotRoom}
+use Rattle.journal.specs.Refusals.{StepRefused, allows, EntryRefused, RefusedFor, PrepareRefused, UpdateRefused, UndoRefused, EndRefused, CellRefused}
 use Rattle.journal.proofs.Runs.{run_named}
 use Rattle.journal.proofs.Fitting.{each_fits}
 use Rattle.journal.proofs.Transactions.{none_pending, stack_push}
@@ -57,17 +57,6 @@ none_of_zero (log ▸ r) h =
 pub some_of : {T : Type 0} (o : Option T) → is_some o ≡ true → (x : T) × (o ≡ Some x)
 some_of None e = absurd (cc)
 some_of (Some x) e = (x, refl)
-
--- a cell that is missing may not be updated
-pub cell_missing : (pages : List PageState) (kept : ℕ → Option Transaction) (count tx page slot : ℕ) (e : Refusal) → length pages ≡ count → CellMissing count page slot e → CellRefused pages kept tx page slot e
-cell_missing pages kept count tx page slot NoSuchPage is r = omega (arith, r, is)
-cell_missing pages kept count tx page slot NoSuchSlot is r = r
-cell_missing pages kept count tx page slot e is r = absurd r
-
-pub missing_kind : (count page slot : ℕ) (e : Refusal) → CellMissing count page slot e → IsNotRoom e
-missing_kind count page slot NoSuchPage r = tt
-missing_kind count page slot NoSuchSlot r = tt
-missing_kind count page slot e r = absurd r
 
 -- A TRANSACTION THAT IS NOT KEPT is not unfinished
 module _ (base : BasePages) (run : Run) (last next : ℕ) (kept : ℕ → Option Transaction) (pages : List PageState) (h : Agrees base run last next kept pages) where

@@ -33,10 +33,6 @@ use Rattle.journal.proofs.Owed.{owed_bound}
 use Rattle.journal.proofs.Journals.{no_entry}
 
 -- THE ENTRIES that are kept
-pub kept_rows : (es : List TransactionEntry) (ps : List PendingEntry) (t : ℕ) → kept_of es ps t ≡ at t (map (row_of ps) es)
-unfolding kept_of
-kept_rows es ps t = refl
-
 keys_rows : (es : List TransactionEntry) (ps : List PendingEntry) → keys_of (map (row_of ps) es) ≡ map (λ (e : TransactionEntry). e.tx) es
 keys_rows [] ps = refl
 keys_rows (e ∷ es) ps = ap (λ (ns : List ℕ). e.tx ∷ ns) (keys_rows es ps)

@@ -1,17 +1,9 @@
 -- Texts at the front of a buffer.
-use Rattle.std.proofs.Common.{◌≡◌, ◌+◌, ℕ, List, ◌∷◌, ◌++◌, length, sym, ap₂, subst, arith, length-append, append_assoc}
+use Rattle.std.proofs.Common.{◌≡◌, ◌+◌, ℕ, ◌∷◌, ◌++◌, sym, ap₂}
 use Rattle.std.specs.Int.{w32, w64, to_be_bytes}
 use Rattle.log_laws.specs.Records.{PlainRecord, LogRecord, Commit, Abort, End, Prepare}
 use Rattle.wal.specs.Spelling.{plain, frame}
-use Rattle.journal.specs.Writing.{Begins, HasKind}
-
--- one text after another, by two calls
-pub then : (at n : ℕ) (a b o m now : List ℕ) → length a ≡ n → ((text before : List ℕ) → length text ≡ at → Begins text before o → Begins (text ++ a) before m)
-    → ((text before : List ℕ) → length text ≡ at + n → Begins text before m → Begins (text ++ b) before now)
-    → (text before : List ℕ) → length text ≡ at → Begins text before o → Begins (text ++ (a ++ b)) before now
-then at n a b o m now size first second text before len h =
-    subst (λ t. Begins t before now) (append_assoc text a b)
-    (second (text ++ a) before (omega (arith, len, size, length-append text a)) (first text before len h))
+use Rattle.journal.specs.Writing.{HasKind}
 
 -- the frame of a record that has only a transaction and a PrevLSN
 pub plain_is : (r : LogRecord) (kind lsn : ℕ) (p : PlainRecord) → HasKind r kind p → to_be_bytes w32 21 ++ ((kind ∷ to_be_bytes w64 lsn) ++ plain p) ≡ frame r lsn

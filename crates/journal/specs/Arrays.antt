@@ -98,7 +98,7 @@ pub record AreArrays (head : Head) (ts : List TransactionEntry) (ps : List Pendi
   pub some : 0 < head.next
   pub used : AreUsed head.next (take head.transactions ts) (take head.pending ps)
 
--- the newest pending update of a transaction is before this place, if so many entries are in use; if its UndoNxtLSN is 0, it has none
+-- the newest pending update of a transaction is before this place, if this many entries are in use; if its UndoNxtLSN is 0, it has none
 abbrev pub bound_of : TransactionEntry → ℕ → ℕ
 bound_of e count = if e.undo_next == 0 then 0 else min e.below count
 

@@ -49,10 +49,6 @@ abbrev pub IsFreeFor : (kept : ℕ → Option Transaction) → Option ℕ → �
 IsFreeFor kept None tx = ⊤
 IsFreeFor kept (Some t) tx = (t ≡ tx) ⊎ (kept t ≡ None)
 
--- it has the same entry and the same pending updates
-abbrev pub IsLike : Transaction → Transaction → Type 0
-IsLike x y = (y.entry ≡ x.entry) × (y.pending ≡ x.pending)
-
 -- the transaction tx was changed in this way, and no other was changed
 pub record Changes (before after : ℕ → Option Transaction) (tx : ℕ) (R : Transaction → Transaction → Type 0) : Type 0 where
   pub own : (x : Transaction) → before tx ≡ Some x → (y : Transaction) × (after tx ≡ Some y) × R x y

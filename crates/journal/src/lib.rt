@@ -7,6 +7,21 @@
 //!
 //! [`Journal`] owns what it keeps. The functions are the same operations over arrays of the caller:
 //! they allocate nothing.
+//!
+//! The modules, in the order of the way through it, with their definitions in `specs/`:
+//!
+//! - `opening`, `reopening`: a journal of a new log, and of one with records, as a recovery leaves
+//!   it (`Opened`, `Scan`).
+//! - `entries`, `image`, `page_entry`, `table`: the arrays of transactions, pages and pending
+//!   updates (`Arrays`, `Transactions`, `PageStates`).
+//! - `beginning`, `operations`: how transactions begin, update, undo and end (`State`, `Holders`).
+//! - `refusal`: why an operation is refused (`Refusals`).
+//! - `framing`: the frames of records in a buffer (`Writing`).
+//! - `checkpoints`: a begin record and an end record with the tables (`Listed`, `Taken`).
+//! - `disk`: what is reported about the disk, and which pages may be written (`Runs`).
+//! - `owned`: [`Journal`], the same over arrays of its own (`Owned`, `JournalState`).
+//! - `laws`: what a crash leaves, after any number of lives (`Traces`, `Lives`, `Crash`,
+//!   `Theorems`, `Files`, `Rollbacks`).
 #![tactic(auto)]
 
 mod beginning;

@@ -1,19 +1,21 @@
 //! What a log means: the definitions on which all that is proved rests, and their laws.
 //!
-//! A log is a *history*, a list of records that grows at its end, and its laws are said from there.
-//! `specs/` has, in this order: the records (`Records`); the transactions and cells that they leave
-//! (`Meaning`); what a record may be after those before it (`Laws`); the records with which a
-//! restart rolls back the losers (`Tail`); the hops of undo (`Hops`); which records redo applies
-//! (`Redo`); pages (`Pages`), checkpoints (`Checkpoint`) and the store (`Store`) that go with a log;
-//! what undo appends (`Undo`). `Theorems` has the laws themselves. None of them speaks of bytes:
-//! that is the crate `wal`.
+//! The door: the definitions in `specs/`, in this order: the records (`Records`); the transactions and
+//! cells that they leave (`Meaning`); what a record may be after those before it (`Laws`); the records
+//! by which a restart rolls back the losers (`Tail`); the hops of undo (`Hops`); which records redo
+//! applies (`Redo`); the pages, the checkpoint and the store that go with a log (`Pages`,
+//! `Checkpoint`, `Store`); what undo appends (`Undo`). None of them is about bytes: the bytes are in
+//! the crate `wal`.
 //!
-//! Each function of `laws` is a law. It does nothing, and what it ensures follows from the
-//! definitions only. The two types are what records and logs have in code and in definitions:
+//! The promise: the laws in `Theorems`, such as: a lawful log and its tail are lawful, have no loser,
+//! and leave in each cell what the winners leave.
 //!
-//! - `state`: [`State`], the state of a transaction in a table;
-//! - `start`: [`LogStart`], how a log begins;
-//! - `laws`: the laws.
+//! The modules:
+//!
+//! - `state`: [`State`], the state of a transaction in a table.
+//! - `start`: [`LogStart`], how a log begins.
+//! - `laws`: the laws. Each function is one: it does nothing, and what it ensures follows from the
+//!   definitions only.
 #![tactic(auto)]
 
 mod laws;

@@ -1,10 +1,10 @@
 -- A store file's header and its page images.
-use Rattle.std.proofs.Common.{◌≡◌, ℕ, zero, suc, ◌+◌, ◌*◌, ◌-◌, ◌<◌, ◌≤◌, ◌^◌, List, [], ◌∷◌, ◌++◌, length, get_or, take, drop, All, sym, ap, ap₂, subst, ◌∙◌, arith, refl, below_more, replicate, inl, inr}
+use Rattle.std.proofs.Common.{◌≡◌, ℕ, zero, suc, ◌+◌, ◌*◌, ◌-◌, ◌<◌, ◌^◌, List, [], ◌∷◌, ◌++◌, length, get_or, take, drop, All, sym, ap, ap₂, subst, ◌∙◌, arith, refl, below_more, replicate, inl, inr}
 use Rattle.std.specs.Int.{w32, w64, to_be_bytes}
 use Rattle.std.specs.List.{flat_map}
 use Rattle.std.proofs.Math.Seq.{take-add}
 use Rattle.std.proofs.lemmas.Grind.{flat_map-append}
-use Rattle.std.proofs.lemmas.List.{append-nil, length-append, length-replicate, take_at, drop_at, take_all, take-append-drop, length_push, drop-drop, get_or_append_left, get_or_push}
+use Rattle.std.proofs.lemmas.List.{append-nil, length-append, length-replicate, take_at, drop_at, take_all, length_push, drop-drop, get_or_append_left, get_or_push}
 use Rattle.std.proofs.lemmas.Bool.{cases_lt}
 use Rattle.std.proofs.lemmas.List.Elements.{All-push, All-tail}
 use Rattle.page.specs.declared.page.Page.{Page}
@@ -17,7 +17,7 @@ use Rattle.page.specs.declared.fault.Fault.{Fault}
 use Rattle.page.specs.declared.fault.Fault.TheVariants.{NoResource, BadPage}
 use Rattle.page.proofs.Slots.{length-directory, length-cells-le}
 use Rattle.page.proofs.Pages.{same_header}
-use Rattle.page.specs.declared.profile.TheConstants.{PAGES, PAGE_BYTES, STORE_MAGIC}
+use Rattle.page.specs.declared.profile.TheConstants.{PAGE_BYTES, STORE_MAGIC}
 use Rattle.page.specs.declared.sizes.TheConstants.{CELLS_AT, ROOM_BYTES, STORE_HEADER_BYTES}
 
 -- magic and numbers of a header
@@ -30,16 +30,6 @@ pub header_parts : (bytes front mark numbers : List ℕ) (count master : ℕ) �
 header_parts bytes front mark numbers count master h ef em en = record {
   front = em ∙ ap (take 8) (ef ∙ h.text);
   back = en ∙ ap (drop 8) (ef ∙ h.text);
-}
-
-pub header_whole : (bytes front mark numbers : List ℕ) (count blank master : ℕ) → front ≡ take STORE_HEADER_BYTES bytes → mark ≡ take 8 front → numbers ≡ drop 8 front
-    → mark ≡ STORE_MAGIC → numbers ≡ to_be_bytes w32 count ++ to_be_bytes w32 blank ++ to_be_bytes w64 master → blank ≡ 0 → 0 < count → count ≤ PAGES → master < 2 ^ 64
-    → BeginsWithHeader bytes count master
-header_whole bytes front mark numbers count blank master ef em en e n z some few small = record {
-  text = sym ef ∙ sym (take-append-drop 8 front) ∙ ap₂ (λ (x y : List ℕ). x ++ y) (sym em ∙ e) (sym en ∙ n ∙ ap (λ m. to_be_bytes w32 count ++ to_be_bytes w32 m ++ to_be_bytes w64 master) z);
-  some = some;
-  few = few;
-  small = small;
 }
 
 -- what a reader of the header took is what is there

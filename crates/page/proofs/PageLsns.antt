@@ -1,5 +1,5 @@
 -- Stores of which only the PageLSNs are read.
-use Rattle.std.proofs.Common.{◌≡◌, ℕ, ◌+◌, ◌*◌, ◌-◌, ◌%◌, ◌<◌, ◌≤◌, ◌^◌, List, [], ◌∷◌, ◌++◌, Bool, true, false, min, length, take, drop, ◌⊎◌, sym, ap, subst, ◌∙◌, arith, refl}
+use Rattle.std.proofs.Common.{◌≡◌, ℕ, ◌+◌, ◌*◌, ◌-◌, ◌%◌, ◌<◌, ◌≤◌, ◌^◌, List, [], ◌∷◌, ◌++◌, Bool, true, false, min, length, take, drop, sym, ap, subst, ◌∙◌, arith, refl}
 use Rattle.std.proofs.lemmas.List.{length-map, map-append}
 use Rattle.page.specs.declared.page.Page.{Page}
 use Rattle.page.specs.declared.profile.TheConstants.{PAGES, PAGE_BYTES}
@@ -7,7 +7,7 @@ use Rattle.page.specs.declared.sizes.TheConstants.{STORE_HEADER_BYTES}
 use Rattle.page.specs.Image.{SpellsPage}
 use Rattle.page.specs.File.{BeginsWithHeader, HasStoreHeader, SpellsStore, HasWrongSize, HasBadPage}
 use Rattle.page.proofs.Once.{store_of}
-use Rattle.page.proofs.Piecewise.{IsLeft, read_stays, left_first, read_all, read_more, read_bad, so_far_more, so_far_first, is_wrong_size, is_bad_page, is_store}
+use Rattle.page.proofs.Piecewise.{IsLeft, read_stays, left_first, read_more, read_bad, so_far_more, so_far_first, is_wrong_size, is_bad_page, is_store}
 use Rattle.page.specs.Lsns.{lsns_of, LsnsAreRead, LsnsSoFar}
 
 -- as many as there are pages
@@ -24,10 +24,6 @@ lsns_stay images more count lsns bad all r = (r.0, r.1, read_stays images more c
 
 pub lsns_first : (images more : List ℕ) (count : ℕ) (lsns : List ℕ) → length images % PAGE_BYTES ≡ 0 → length lsns < count → LsnsAreRead images count lsns false → LsnsLeft (images ++ more) count lsns more
 lsns_first images more count lsns whole lt r = (r.0, r.1, left_first images more count r.0 whole (omega (arith, lt, count_lsns lsns r.0 r.1)) r.2)
-
--- all PageLSNs that the images have were read
-pub lsns_all : (images rest : List ℕ) (count : ℕ) (lsns : List ℕ) → LsnsLeft images count lsns rest → (count ≤ length lsns) ⊎ (length rest < PAGE_BYTES) → LsnsAreRead images count lsns false
-lsns_all images rest count lsns l none = (l.0, l.1, read_all images rest count l.0 l.2 (subst (λ n. (count ≤ n) ⊎ (length rest < PAGE_BYTES)) (count_lsns lsns l.0 l.1) none))
 
 -- the next image is a page
 pub lsns_more : (images rest behind image : List ℕ) (count : ℕ) (lsns new : List ℕ) (page : Page) → LsnsLeft images count lsns rest → length lsns < count → PAGE_BYTES ≤ length rest → image ≡ take PAGE_BYTES rest → behind ≡ drop PAGE_BYTES rest

@@ -1,5 +1,5 @@
 -- Stores whose bytes come piece by piece.
-use Rattle.std.proofs.Common.{◌≡◌, ℕ, ◌+◌, ◌*◌, ◌-◌, ◌%◌, ◌<◌, ◌≤◌, ◌^◌, List, [], ◌∷◌, ◌++◌, Bool, true, false, min, length, take, drop, ◌⊎◌, sym, ap, ap₂, subst, ◌∙◌, arith, refl, inl, inr}
+use Rattle.std.proofs.Common.{◌≡◌, ℕ, ◌+◌, ◌*◌, ◌-◌, ◌%◌, ◌<◌, ◌≤◌, ◌^◌, List, [], ◌∷◌, ◌++◌, Bool, true, false, min, length, take, drop, sym, ap, ap₂, subst, ◌∙◌, arith, refl}
 use Rattle.std.proofs.lemmas.List.{length-append, length-drop, take-append-le, drop-append-le, take-append-drop, drop_all, drop-drop, drop_at, length_push}
 use Rattle.page.specs.declared.page.Page.{Page}
 use Rattle.page.specs.Image.{SpellsPage}
@@ -69,22 +69,6 @@ left_first images more count pages whole lt r =
       few = r.few;
       inside = omega (arith, length-append images more, r.inside);
       left = sym (drop_at images more (PAGE_BYTES * length pages) long);
-    }
-
--- all pages that the images have were read
-pub read_all : (images rest : List ℕ) (count : ℕ) (pages : List Page) → IsLeft images count pages rest → (count ≤ length pages) ⊎ (length rest < PAGE_BYTES) → AreRead images count pages false
-read_all images rest count pages l none =
-    let left = ap length l.left ∙ length-drop (PAGE_BYTES * length pages) images in
-    record {
-      so_far = l.so_far;
-      few = l.few;
-      inside = l.inside;
-      stopped = λ e. absurd (cc e);
-      whole = λ e. absurd (cc e);
-      going = λ e. elim none [
-        | inl all ↦ omega (arith, left, l.few, l.inside, all)
-        | inr short ↦ omega (arith, left, l.few, l.inside, short)
-      ];
     }
 
 -- the next image is a page

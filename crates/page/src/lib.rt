@@ -1,5 +1,23 @@
-//! The pages of a store: values, pages, stores, the faults of a restart, and the only encoding of
-//! each in bytes.
+//! The pages of a store, and the only encoding of a store in bytes: a header and the images of its
+//! pages. It also has the faults of all crates, and the limits of the files.
+//!
+//! The door: [`decode_store`] makes a [`Store`] of bytes, and [`encode_store`] the reverse.
+//! [`StoreReader`] and [`LsnReader`] take the bytes piece by piece.
+//!
+//! The promise: bytes are read as a store if and only if they are its one encoding, and an error is
+//! always the first fault.
+//!
+//! The modules, in the order of the way through it, with their definitions in `specs/`:
+//!
+//! - `value`, `page`, `store`: what a slot holds, a page, a store (`Store`).
+//! - `profile`, `sizes`: the limits and the magics of the files, and what follows from them
+//!   (`Profile`).
+//! - `numbers`, `image`: a page in bytes (`Image`, `Parts`).
+//! - `file`: the header of a store, and a store in bytes (`File`, `Images`).
+//! - `came`, `pieces`: a store whose bytes come piece by piece (`Pieces`).
+//! - `lsns`: the PageLSNs alone, for a store that is too large to keep (`Lsns`).
+//! - `fault`: why a call failed, with numbers and texts for all crates (`Fault`, `Causes`).
+//! - `laws`: one encoding, one fault, the limits fit together (`Laws`).
 #![tactic(auto)]
 
 mod came;

@@ -10,9 +10,8 @@ use Rattle.wal.specs.Reads.{Reads}
 use Rattle.log_laws.proofs.Histories.{base_of_log, size_of_log}
 use Rattle.pieces.specs.declared.mark.Mark.{Mark}
 use Rattle.pieces.specs.Pieces.{IsMark, piece_text, ContinuesLog}
-use Rattle.passes.specs.Marks.{Reaches, AreMarks, AreInReach}
+use Rattle.passes.specs.Marks.{AreMarks}
 use Rattle.pieces.proofs.Beginnings.{records_begin, same_start}
-use Rattle.wal.specs.declared.sizes.TheConstants.{BASED_HEADER_BYTES}
 
 -- what holds for the bytes of a device
 pub told : (held : Option (List ℕ)) (text : List ℕ) (P : List ℕ → Type 0) → held ≡ Some text → IfSome held P → P text
@@ -72,19 +71,6 @@ keeps_on None now new a b = tt
 keeps_on (Some xs) None new a b = absurd a
 keeps_on (Some xs) (Some ys) None a b = absurd b
 keeps_on (Some xs) (Some ys) (Some zs) a b = b ∙ a
-
--- the records up to the next mark fit in a room in reach
-pub reaches : (text : List ℕ) (whole : LogContent) (marks : List Mark) (asked room k : ℕ) (d : Mark) → room ≡ asked → AreMarks text whole marks → AreInReach asked marks → 0 < k → k < length marks
-    → Reaches text ((get_or marks (k - 1) d).offset + room - BASED_HEADER_BYTES) (get_or marks k d).lsn
-reaches text whole marks asked room k d same are reach some lt =
-    let next : (k - 1) + 1 ≡ k = omega (arith, some) in
-    let own = are.each k d lt in (
-      own.0,
-      get_or marks k d,
-      own.1,
-      omega (arith, same, reach (k - 1) d (omega (arith, next, lt)), ap (λ n. (get_or marks n d).offset) next),
-      omega arith,
-    )
 
 -- a mark of the list is one of the bytes
 pub marked : (text : List ℕ) (whole : LogContent) (marks : List Mark) (k : ℕ) (mark : Mark) → ((d : Mark) → mark ≡ get_or marks k d) → k < length marks → AreMarks text whole marks → (before : LogContent) × IsMark text before mark

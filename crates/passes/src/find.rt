@@ -103,6 +103,6 @@ pub fn find_marks<S: Reread>(
         }
         marks.push(next)?;
     }
-    // No log has so many pieces.
+    // No log has 2^64 - 1 pieces.
     Err(PassFault::Fault(Fault::NoResource))
 }

@@ -280,6 +280,6 @@ pub fn read_forward<S: Reread, P: Pages>(
         }
         marks.push(next)?;
     }
-    // No log has so many pieces.
+    // No log has 2^64 - 1 pieces.
     Err(PassFault::Fault(Fault::NoResource))
 }

@@ -1,4 +1,25 @@
-//! The passes of a restart over a log that a device holds, which is read in pieces.
+//! The passes of a restart over a log that a device holds. The log is read in pieces, so it may be
+//! longer than memory.
+//!
+//! The door: [`restart_in_pieces`]. It takes pages in memory, or only what changes in them.
+//!
+//! The promise: what it returns, and what it makes of the pages, is what a restart in memory
+//! returns and makes.
+//!
+//! The modules, in the order of the way through it, with their definitions in `specs/`:
+//!
+//! - `in_pieces`: the restart, with a checkpoint by the passes below, without one by `fresh`
+//!   (`InPieces`).
+//! - `fresh`: one forward reading of a log without a checkpoint, for marks, tables and tallies
+//!   together (`Listing`).
+//! - `find`, `marks`: the first reading, and the marks between which the log is read again
+//!   (`Marks`).
+//! - `next`, `piece`: the piece after a mark (`Next`).
+//! - `analyse`: analysis, from the mark before the checkpoint on (`Tables`).
+//! - `repeat`: redo, which takes the tallies from the mark before its first record on, and then the
+//!   images (`Redoing`).
+//! - `gather`: what undo looks at, from the end of the log to its beginning.
+//! - `fault`: why a pass stops, the device or a fault of the bytes.
 #![tactic(auto)]
 
 mod analyse;

@@ -214,9 +214,6 @@ module _ (text : List ℕ) (before : LogContent) (mark : Mark) (is : IsMark text
       frames_length : length frames ≡ (length bytes - BASED_HEADER_BYTES) - torn
       frames_length = omega (arith, ap (λ (t : List ℕ). length t) rest_is, length-append frames reads.tail, reads.torn_count, rest_length)
 
-      torn_within : torn ≤ length bytes - BASED_HEADER_BYTES
-      torn_within = omega (arith, ap (λ (t : List ℕ). length t) rest_is, length-append frames reads.tail, reads.torn_count, rest_length)
-
       each : AllByRecursion Fits (before.records ++ piece.records)
       each = each_more before.records piece.records is.reads.each reads.each
 

@@ -1,5 +1,5 @@
 -- A recovery of bytes: what was read, what is written, and its errors.
-use Rattle.std.proofs.Common.{ℕ, ◌≡◌, ◌+◌, ◌-◌, ◌≤◌, List, [], ◌∷◌, ◌++◌, length, take, Result, Ok, Err, refl, sym, subst, ap, ap₂, ◌∙◌, arith, inl, inr, append_assoc, append-nil, ◌%◌}
+use Rattle.std.proofs.Common.{ℕ, ◌≡◌, ◌+◌, ◌-◌, List, [], ◌∷◌, ◌++◌, length, take, Result, Ok, Err, refl, sym, subst, ap, ap₂, ◌∙◌, arith, inl, inr, append_assoc, append-nil, ◌%◌}
 use Rattle.std.proofs.lemmas.List.{take_at, length-append}
 use Rattle.std.proofs.lemmas.List.FromFn.{length-map-range_with_len}
 use Rattle.page.specs.Store.{StoreContent}
@@ -18,15 +18,9 @@ use Rattle.redo.specs.Parting.{PartingContent, by_number}
 use Rattle.restart.specs.declared.options.Options.{Options}
 use Rattle.restart.specs.Restart.{AreSettings, InputFault, RestartFault}
 use Rattle.recovery.specs.Recovery.{Decoded, ReadsAs, AreLawful, RecoveryCause}
-use Rattle.restart.specs.Options.{AreInRange, OptionsFault}
+use Rattle.restart.specs.Options.{AreInRange}
 use Rattle.restart.proofs.Causes.{settings_hold}
 use Rattle.wal.specs.Headers.{header_of}
-
--- OPTIONS
-pub options_cause : (log store : List ℕ) (options : Options) (e : Fault) → OptionsFault options e → RecoveryCause log store options e
-options_cause log store options BadWorkers h = h
-options_cause log store options BadParting h = h
-options_cause log store options e h = absurd h
 
 -- WHAT WAS READ
 -- the log without its torn tail
@@ -35,9 +29,6 @@ kept_text bytes read torn reads =
     let len : length bytes ≡ length (log_text read) + torn = ap length reads.text ∙ omega (arith, length-append (log_text read) reads.tail, reads.torn_count) in
     let front : length bytes - torn ≡ length (log_text read) = omega (arith, len) in
     ap₂ (λ n (b : List ℕ). take n b) front reads.text ∙ take_at (log_text read) reads.tail (length (log_text read)) refl
-
-pub torn_within : (bytes : List ℕ) (read : LogContent) (torn : ℕ) → Reads bytes read torn → torn ≤ length bytes
-torn_within bytes read torn reads = omega (arith, ap length reads.text, length-append (log_text read) reads.tail, reads.torn_count)
 
 -- what was read of lawful bytes is lawful
 pub is_lawful : {base : BasePages} {log store : List ℕ} (bytes : AreLawful base log store) (read : LogContent) (before : StoreContent) → read ≡ bytes.decoded.read → before ≡ bytes.decoded.before → Lawful base read before

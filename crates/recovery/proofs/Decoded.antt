@@ -1,5 +1,5 @@
 -- A store whose bytes come piece by piece: what the decoder of all of them returns.
-use Rattle.std.proofs.Common.{◌≡◌, ℕ, List, [], ◌++◌, Result, Ok, Option, Some, None, refl, sym, subst}
+use Rattle.std.proofs.Common.{◌≡◌, ℕ, List, [], Result, Ok, Option, refl, subst}
 use Rattle.std.specs.Prelude.{IfOk, OnOk, IfErr, MatchResult}
 use Rattle.std.proofs.lemmas.Result.{IfOk-at_ok}
 use Rattle.std.specs.Io.KnownBytes.{Consumes, IsAtEnd}
@@ -16,16 +16,6 @@ use Rattle.recovery.specs.Devices.{Gave, SourcesGave}
 -- all that it had left, if it is at its end
 pub gave_all : (a b : Option (List ℕ)) (bytes : List ℕ) → Consumes a b bytes → IsAtEnd b → Gave a bytes
 gave_all a b bytes read end = Consumes-all a b bytes [] bytes read end refl
-
--- the bytes that it has left, none if they are not known
-abbrev pub rest_of : Option (List ℕ) → List ℕ
-rest_of None = []
-rest_of (Some xs) = xs
-
-pub gave_rest : (a b : Option (List ℕ)) (bytes : List ℕ) → Consumes a b bytes → Gave a (bytes ++ rest_of b)
-gave_rest None b bytes read = tt
-gave_rest (Some xs) None bytes read = absurd read
-gave_rest (Some xs) (Some ys) bytes read = sym read
 
 -- the bytes of both sources: those of a log, and what was read of a store encodes what the result says
 pub both_read : {log_left left : Option (List ℕ)} {log : List ℕ} {answer : Result DecodedStore Fault} (found : DecodedStore) → Gave log_left log → answer ≡ Ok found

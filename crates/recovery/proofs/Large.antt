@@ -19,9 +19,8 @@ use Rattle.wal.specs.Reads.{Reads}
 use Rattle.log_laws.specs.Tail.{with_tail}
 use Rattle.recovery.specs.Text.{ReportContent}
 use Rattle.recovery.specs.Recovery.{Recovers, AreLawful}
-use Rattle.std.proofs.KnownBytes.{Keeps-refl}
 use Rattle.restart.specs.declared.options.Options.{Options}
-use Rattle.recovery.specs.Devices.{Gave, SourcesGave, DeviceCause, IsResourceOrDevice, FailsOnlyWith, IsFaultOf}
+use Rattle.recovery.specs.Devices.{Gave, SourcesGave, DeviceCause, IsResourceOrDevice, FailsOnlyWith}
 use Rattle.recovery.specs.declared.store_changes.DecodedLsns.{DecodedLsns}
 use Rattle.recovery.specs.ByPieces.{IsOfLog, StoreFails}
 use Rattle.recovery.specs.StoreChanges.{AreDecodedLsns, DecodesLsns, IsBegun, IsRewriteFault, IsOfRewriting}
@@ -113,12 +112,6 @@ module _ {L S : Type 0} (log : Sink L) (a b : L) (store : Sink S) (c d : S) (kep
 pub untouched_large : {L S : Type 0} (log : Sink L) (a : L) (store : Sink S) (b : S) (log_left store_left : Option (List ℕ)) (e : Fault) → IsOfLog e → IsLeftLarge log a a store b b log_left store_left e
 untouched_large log a store b log_left store_left ReadStore h = absurd h
 untouched_large log a store b log_left store_left e h = untouched log a store b log_left store_left e h
-
--- so does a fault of reading
-pub unread_large : {L S : Type 0} (log : Sink L) (a : L) (store : Sink S) (b : S) (log_left store_left : Option (List ℕ)) (e : Fault) → (e ≡ ReadLog) ⊎ IsFaultOf ReadStore e → IsLeftLarge log a a store b b log_left store_left e
-unread_large log a store b log_left store_left e (inl failed) = subst (IsLeftLarge log a a store b b log_left store_left) (sym failed) (Keeps-refl (log.taken a), Keeps-refl (store.taken b))
-unread_large log a store b log_left store_left e (inr (inl none)) = subst (IsLeftLarge log a a store b b log_left store_left) (sym none) (Keeps-refl (log.taken a), Keeps-refl (store.taken b))
-unread_large log a store b log_left store_left e (inr (inr own)) = subst (IsLeftLarge log a a store b b log_left store_left) (sym own) (inl (Keeps-refl (log.taken a), Keeps-refl (store.taken b)))
 
 -- the log's device has no fault of writing
 pub not_read_log : (e : Fault) → (e ≡ WriteLog) ⊎ IsOfRewriting e → e ≡ ReadLog → ⊥

@@ -63,7 +63,7 @@ pub enum Known {
     Fault(Fault),
 }
 
-/// The next bytes of a log's source: at least this many if there are so many, and up to 64 KiB
+/// The next bytes of a log's source: at least this many if there are as many, and up to 64 KiB
 /// more.
 fn read_next<S: Source>(alloc: Global, source: &mut S, count: usize) -> Result<Vec<u8>, Fault>
     ensures read { IfOk result (λ bytes. ReadNext S.left source.old source.new bytes.items) }
@@ -101,7 +101,7 @@ fn zeros(alloc: Global, count: usize) -> Vec<u8> {
     }
 }
 
-/// The next bytes of a log's source, at least `half` if there are so many, and this much room for
+/// The next bytes of a log's source, at least `half` if there are as many, and this much room for
 /// the rest. Another thread touches the room while the caller reads.
 fn read_half<S: Source, R: Threads + Sync>(
     rt: &R,

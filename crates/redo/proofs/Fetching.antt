@@ -171,9 +171,6 @@ finished_all whole tallies rest images before after upto numbered stand lasts al
 }
 
 -- SETTING PAGELSNS
-pub none_set : (tallies : List Tally) (pages : List Page) → HaveLsns tallies 0 pages pages
-none_set tallies pages = record { same_count = refl; each = λ k t page lt. absurd (omega (arith, lt)); others = λ k page le. refl; slots = λ k page lt. absurd (omega (arith, lt)) }
-
 pub one_set : (tallies : List Tally) (n : ℕ) (own : Tally) (before after : List Page) (d : Page) → n < length tallies → length before ≡ length tallies
     → ((e : Page) → length (get_or after n e).slots ≡ SLOTS) → HaveLsns tallies n before after → HaveLsns tallies (n + 1) before (set after n (page_lsn (get_or tallies n own).lsn (get_or after n d)))
 one_set tallies n own before after d lt count wide have =

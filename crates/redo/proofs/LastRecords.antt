@@ -16,9 +16,6 @@ use Rattle.page.specs.declared.profile.TheConstants.{SLOTS}
 abbrev pub HoldsBelow : (page : ℕ) → (lasts : List ℕ) → (old : List Wanted) → (slot : ℕ) → List Wanted → Type 0
 HoldsBelow page lasts old slot items = (w : Wanted) → Contains items w ↔ (Contains old w ⊎ (IsLastIn page lasts w × (w.slot < slot)))
 
-pub none_below : (page : ℕ) (lasts : List ℕ) (old : List Wanted) → HoldsBelow page lasts old 0 old
-none_below page lasts old w = (λ has. inl has, λ one. elim one [ inl has ↦ has | inr last ↦ absurd (omega (arith, last.1)) ])
-
 -- the slot of a last record has its LSN
 lsn_is : (page : ℕ) (lasts : List ℕ) (w : Wanted) → IsLastIn page lasts w → w.lsn ≡ get_or lasts w.slot 0
 lsn_is page lasts w last = sym (get_or_from_slice_get lasts w.slot w.lsn 0 last.slot_is)

@@ -4,7 +4,6 @@ use mathlib.Core.Logic.{dite}
 use native.Mathlib.Decide.{dec_lt}
 use Rattle.page.specs.declared.fault.Fault.{Fault}
 use Rattle.page.specs.declared.fault.Fault.TheVariants.{NoResource, NoSuchPage}
-use Rattle.std.specs.Prelude.{option_map}
 use Rattle.std.specs.List.{slice_get}
 use Rattle.std.proofs.lemmas.Bool.{cond_both, cases_eq}
 use Rattle.std.proofs.lemmas.List.{map-append}
@@ -14,7 +13,7 @@ use Rattle.wal.specs.Spelling.{Fits}
 use Rattle.redo.specs.declared.note.Note.{Note}
 use Rattle.log_laws.specs.Records.{LogRecord, LogContent, Update, Compensation, History, ◌▸◌, last_lsn, history, record_at, first, base_lsn}
 use Rattle.log_laws.proofs.Histories.{size_of_first, size_of_first_le}
-use Rattle.redo.specs.Changes.{page_named, part_of_page, is_part, IsNote, NamesBelow, on_part, lsns_where, lsn_in}
+use Rattle.redo.specs.Changes.{part_of_page, is_part, IsNote, NamesBelow, on_part, lsns_where, lsn_in}
 use Rattle.log_laws.specs.Meaning.{cell_of}
 use Rattle.redo.specs.Inputs.{InputContent}
 use Rattle.redo.specs.Routes.{ExistWithin, NoteFault, RouteFault}
@@ -73,13 +72,6 @@ pub small_slot : (r : LogRecord) (page slot : ℕ) → Fits r → cell_of r ≡ 
 small_slot (Update u) page slot fits e = let is : u.slot ≡ slot = ap (λ (x : ℕ × ℕ). x.1) (same_Some _ _ e) in omega (arith, is, fits.slot)
 small_slot (Compensation c) page slot fits e = let is : c.slot ≡ slot = ap (λ (x : ℕ × ℕ). x.1) (same_Some _ _ e) in omega (arith, is, fits.slot)
 small_slot r page slot fits e = absurd (cc)
-
--- what is in no cell is on no page
-pub no_page : (r : LogRecord) → None ≡ cell_of r → page_named r ≡ None
-no_page r e = sym (ap (option_map (λ (x : ℕ × ℕ). x.0)) e)
-
-pub no_cell : (part_of : List ℕ) (part : ℕ) (r : LogRecord) → None ≡ cell_of r → on_part part_of part r ≡ false
-no_cell part_of part r e = ap (λ o. is_part part (part_of_page part_of o)) (no_page r e)
 
 -- one more note
 pub notes_more : (log : History) (place_of : List ℕ) (note : Note) (k part : ℕ) (old new : List Note) → new ≡ cond (eqb k part) (old ++ note ∷ []) old → IsNote log place_of note → All (IsNote log place_of) old → All (IsNote log place_of) new

@@ -22,7 +22,6 @@ use Rattle.redo.proofs.Stretches.{skipped_within}
 use Rattle.redo.proofs.Advance.{advanced, advance_elsewhere}
 use Rattle.redo.proofs.Replay.{image_number, skips_none, page_of_cell, applied_within}
 use Rattle.redo.proofs.Tallies.{does, counted_put}
-use Rattle.redo.proofs.Noting.{no_page}
 use Rattle.redo.proofs.Causes.{round_fault}
 
 -- BEFORE THE FIRST RECORD
@@ -50,13 +49,6 @@ each_more Q number xs x count each one k d lt =
     ]
 
 -- ONE MORE RECORD
--- a record in no cell changes no page
-pub idle : (redo_lsn lsn : ℕ) (r : LogRecord) (p : RedoPage) → None ≡ cell_of r → p ≡ advance redo_lsn lsn r p
-idle redo_lsn lsn r p none = sym (advance_elsewhere redo_lsn lsn r p (λ page named _. unnamed page (sym (no_page r none) ∙ named)))
-  where
-    unnamed : (page : ℕ) → None ≡ Some page → ⊥
-    unnamed page e = cc
-
 -- a record in a cell is counted for the page of its number
 pub placed : (input : InputContent) (lsn number slot : ℕ) (r : LogRecord) (tallies new : List Tally) → record_at (history input.log) lsn ≡ Some r → cell_of r ≡ Some (number, slot)
     → number < length tallies → ((k : ℕ) (t : Tally) → k < length tallies → (get_or tallies k t).number ≡ k)

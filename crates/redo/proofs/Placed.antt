@@ -22,10 +22,6 @@ pub at_none : (kept : List Tally) (place : ℕ) (none : Tally) → place ≡ 0 �
 at_none kept zero none is = refl
 at_none kept (suc m) none is = absurd (omega (arith, is))
 
--- a page without a place
-pub no_place : (kept : List Tally) (number lsn : ℕ) → IsPlaced kept number (record { number = number; place = 0; lsn = lsn })
-no_place kept number lsn = record { number = refl; within = omega arith; own = λ none is. is }
-
 -- one page more
 pub placed_page : (kept : List Tally) (pages : List PlacedPage) (page : PlacedPage) → IsPlaced kept (length pages) page → ArePlaced kept pages → ArePlaced kept (pages ++ page ∷ [])
 placed_page kept pages page one are k d lt = each_more (IsPlaced kept) (length pages) pages page refl are one k d (omega (arith, lt, length-append pages (page ∷ [])))

@@ -1,5 +1,30 @@
-//! Redo: repeating history on the pages of a store, by workers that draw the parts of the pages
-//! from a board.
+//! Redo, the second pass of a restart: it repeats history on the pages of a store. It notes for
+//! each slot the last record that a page lacks, and only then puts the images of these records in.
+//!
+//! The door: [`redo`] with workers, [`redo_alone`] without threads, and [`TallyScan`] for a log
+//! that is read in pieces. A [`Gate`] is a hook that is called for each part.
+//!
+//! The promise: each page gets the records that ARIES applies, in order, for every number of
+//! workers, partition and gate.
+//!
+//! The modules, in the order of the way through it, with their definitions in `specs/`:
+//!
+//! - `rounds`: redo as a whole; a module and a function cannot have the same name (`Redone`,
+//!   `Parted`).
+//! - `input`, `redone`: what redo takes and returns (`Inputs`).
+//! - `parting`, `lists`: the pages divided into parts (`Parting`, `Lists`).
+//! - `route`, `note`: the first round, in which each worker notes for its stretch of the log which
+//!   records are on the pages of which part (`Routes`, `Notes`).
+//! - `crew`, `gate`, `part`, `tally`: the second round, in which workers draw parts and find by
+//!   LSNs alone the last record of each slot (`Changes`, `Parts`).
+//! - `gather`, `finish`: the tallies in the order of the pages, and the third round, which puts the
+//!   images into the pages.
+//! - `one_pass`, `watch`, `unthreaded`: one pass over the records in place of the rounds, for one
+//!   worker or no threads (`OnePass`).
+//! - `tally_scan`, `tally_table`, `wanted`, `ordered`, `fetch`: a log that is read in pieces, with
+//!   tallies only for pages that change, and then the images of the last records (`Passing`,
+//!   `Placed`, `Wanted`).
+//! - `laws`: redo has at most one fault.
 #![tactic(auto)]
 
 mod crew;

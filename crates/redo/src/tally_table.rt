@@ -250,7 +250,7 @@ impl TallyTable {
     }
 }
 
-/// How many pages there are. The only error is `NoResource`: no store has so many.
+/// How many pages there are. The only error is `NoResource`, if they are 2^32 or more, which no store has.
 pub fn page_count<P: Pages>(pages: &P) -> Result<u32, Fault>
     ensures count { IfOk result (λ count. count ≡ P.count pages.now) }
     ensures err { IsOkUnless result NoResource }

@@ -1,5 +1,24 @@
-//! Undo: the updates of the transactions that have not finished are undone, the newest first, with
-//! compensation records.
+//! Undo, the third pass of a restart: it rolls the losers back, the newest update first. It appends
+//! a CLR for each update and an end for each loser, and changes the pages.
+//!
+//! The door: [`undo`] takes a log and pages in memory. [`undo_on`] takes any [`changes::Pages`],
+//! and records in memory or gathered from pieces ([`Looked`]).
+//!
+//! The promise: the losers are rolled back, those in doubt stay as they are, and each page is as
+//! the appended records make it. On a lawful log with true tables these records are the tail of the
+//! log.
+//!
+//! The modules, in the order of the way through it, with their definitions in `specs/`:
+//!
+//! - `rollback`: the pass (`Undone`, `Rollback`).
+//! - `losers`, `turns`: the losers, and a heap of them by the update to undo next (`Turns`).
+//! - `walk`: the way of a transaction from a record to the update before it, past CLRs.
+//! - `appended`: the appended records in compact form (`Appended`).
+//! - `looked`, `gathered`: a log at which undo looks, in memory as a whole or only where undo comes
+//!   (`Looked`, `Gathered`, `Enough`).
+//! - `gathering`, `want`: these records, gathered while a log is read in pieces from its end to its
+//!   beginning (`Gathering`, `Wants`).
+//! - `laws`: undo has at most one fault, and what is gathered suffices.
 #![tactic(auto)]
 
 mod appended;

@@ -33,11 +33,6 @@ pub record IsPlace (bytes : List ℕ) (offset : ℕ) : Type 0 where
   pub whole : offset + 4 + length_of (drop offset bytes) ≤ length bytes
   pub spelled : is_some (frame_at (drop offset bytes)) ≡ true
 
--- so it is at each offset, and each frame has bytes of its own after the header
-pub record ArePlaces (bytes : List ℕ) (offsets : List ℕ) : Type 0 where
-  pub each : All (IsPlace bytes) offsets
-  pub room : HEADER_BYTES + SMALLEST_FRAME * length offsets ≤ length bytes
-
 -- these records, each in bytes of its own after the header, are those of a log with this start
 pub record IsLog (begins : LogStart) (records : List LogRecord) : Type 0 where
   pub starts : FitsStart begins

@@ -1,4 +1,5 @@
-//! Laws of the bytes of logs. Each function is a law: what it ensures follows from the definitions only.
+//! Laws of the bytes of logs. Each function is a law: what it ensures follows from the definitions
+//! only.
 
 ghost use Rattle.wal.specs.Profile.{IsLogProfile};
 ghost use Rattle.wal.specs.Reads.{OneReading, OneLogFault, NoFaultOfALog};

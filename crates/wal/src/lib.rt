@@ -1,9 +1,29 @@
-//! The log: its records, their frames in bytes, and what a log means.
+//! The log in bytes: its records, their frames, and how a log is read.
 //!
-//! `read_log` reads a log in place, `read_log_by` reads it with several threads, and `write_frame`
-//! appends the frame of a record. A log whose bytes come in two parts is read by `first_frames` and
-//! `read_log_behind`. The definitions of what a log means (replay, winners, pending, the laws, the
-//! tail of a restart) are in `specs/`. Their laws are the functions of `laws`.
+//! The door: [`read_log`] reads a log that stays in its bytes, [`Log`] looks up its records, and
+//! [`write_frame`] appends the frame of a record. [`read_log_by`] reads with several threads.
+//!
+//! The promise: bytes are a log and a torn tail if and only if the format says so; a record has
+//! exactly one encoding; and an error is the first fault. What the records mean is in the crate
+//! `log_laws`.
+//!
+//! The modules, in the order of the way through it, with their definitions in `specs/`:
+//!
+//! - `sizes`: how large the body of a frame and the tables of a checkpoint are (`Profile`).
+//! - `record`: a record, owned, and which records have an encoding (`Content`, `Spelling`).
+//! - `view`, `change`: a record that borrows from the bytes of a log; its transaction, the record
+//!   before it, and what it puts into a cell.
+//! - `field`: the fields of a record in bytes, read and written (`Reading`).
+//! - `header`: the header of a log file (`Headers`).
+//! - `head`, `frame`, `frame_size`: a record as a frame, written and read as a whole (`Head`,
+//!   `Frames`).
+//! - `next`, `glance`, `image`, `body`: the parts of a frame that most passes read: where it ends, its
+//!   cell, its image, its body (`Glances`).
+//! - `offsets`, `part`, `stretch`, `joining`: frames one after another, and the stretches of a log
+//!   that several threads read at once (`Stretches`).
+//! - `reading`, `log`: the log that frames make, and its records by LSN (`Reads`).
+//! - `checkpoint`: the checkpoint that a master names.
+//! - `laws`: the laws of the bytes of a log, whole or cut (`Reads`, `Cut`).
 #![tactic(auto)]
 
 mod body;

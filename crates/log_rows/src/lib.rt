@@ -1,6 +1,0 @@
-//! The tests of the crates that read a log and change no page: reading and writing a log, the
-//! tables that analysis finds in it, and its audit.
-#![tactic(auto)]
-
-#[cfg(test)]
-mod tests;

@@ -1,0 +1,5 @@
+//! The tests of redo.
+#![tactic(auto)]
+
+#[cfg(test)]
+mod tests;
