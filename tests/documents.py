@@ -38,8 +38,16 @@ def faults_of_the_documents():
     return {name: (number, text.replace("<n>", "{0}")) for number, name, text in rows}
 
 
+def missing_in_list_of_tests():
+    """The checks of tests/run.py and the files of bench/ that tests/README.md does not have."""
+    checks = re.findall(r'^    \("([\w-]+)", "\w+", "\w+", \w+, ', text_of("tests/run.py"), re.M)
+    files = [name for name in sorted(os.listdir(os.path.join(TOP, "bench"))) if name not in ("NOTES.md", "__pycache__")]
+    return [name for name in checks + files if f"`{name}`" not in text_of("tests/README.md")]
+
+
 def check_documents(tally):
     tally.say("README's code is tested", is_readme_code_tested())
+    tally.say("tests/README.md has each check and each file of bench", not missing_in_list_of_tests(), missing_in_list_of_tests())
     for document in documents():
         tally.say(f"links of {document}", not broken_links(document), broken_links(document))
     tally.say("faults in docs/FORMATS.md", faults_of_the_documents() == faults_of_the_source())

@@ -1,5 +1,5 @@
 -- Maps from numbers, read key by key.
-use Rattle.std.proofs.Common.{ℕ, zero, suc, ◌≡◌, ◌<◌, ◌≤◌, Bool, true, false, cond, eqb, ltb, eq-eqb, eqb-true, ◌+◌, List, ◌∷◌, length, drop, get_or, replicate, drop-cons, Option, Some, None, refl, sym, ap, ap₂, ◌∙◌, arith, inl, inr}
+use Rattle.std.proofs.Common.{ℕ, zero, suc, ◌≡◌, ◌<◌, ◌≤◌, Bool, true, false, cond, eqb, ltb, eqb-true, ◌+◌, List, ◌∷◌, length, drop, get_or, replicate, drop-cons, Option, Some, None, refl, sym, ap, ap₂, ◌∙◌, arith, inl, inr}
 use Rattle.std.specs.Prelude.{option_map, is_some}
 use Rattle.log_laws.specs.Records.{TableEntry, LogRecord}
 use Rattle.std.specs.Ordering.{is_eq, nat_cmp}
@@ -78,13 +78,6 @@ none_known n page e = (let f : get_or (replicate n false) page false ≡ false =
     never zero page = refl
     never (suc n) zero = refl
     never (suc n) (suc page) = never n page
-
-    by_none : (o : Option ℕ) → is_some (or_else o None) ≡ is_some o
-    by_none None = refl
-    by_none (Some x) = refl
-
-    by_other : p ≡ page → eqb page p ≡ false → ⊥
-    by_other same e = (let f : eqb page p ≡ true = eq-eqb page p (sym same) in cc)
 
 -- pages that are listed, and those after them that are known
 pub listed_upto : (known : List Bool) (dirty : List (ℕ × ℕ)) (whole upto : ℕ) → AreListed known dirty → AreAllListed whole dirty → ((page : ℕ) → whole ≤ page → page < upto → get_or known page false ≡ true) → AreAllListed upto dirty

@@ -1,8 +1,8 @@
 //! Analysis, the first pass of a restart: it finds the tables of a crash in a log, from the
 //! checkpoint that the store's master names up to the end.
 //!
-//! The door: [`analyse`] takes a whole log. If a log is read in pieces, [`CheckpointScan`] finds
-//! the tables of the checkpoint, and from these on [`TableScan`] those of the crash.
+//! Entry points: [`analyse`] takes a whole log. If a log is read in pieces, [`CheckpointScan`]
+//! finds the tables of the checkpoint, and from these on [`TableScan`] those of the crash.
 //!
 //! The promise: on every log it finds the tables of the definition. On a lawful log and its store
 //! they list exactly the unfinished transactions, and redo by them skips no record that a page

@@ -1,7 +1,7 @@
 //! The program `aries` without its `main`: recovery and audit of files. It also exports what an
 //! engine in Rattle needs of the crates below.
 //!
-//! The door: [`run`] for the program, and [`recover`] for an engine.
+//! Entry points: [`run`] for the program, and [`recover`] for an engine.
 //!
 //! The promise is that of `recovery`. Which files are opened, made, synced and renamed here, and in
 //! which order, is only tested.

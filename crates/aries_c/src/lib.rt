@@ -1,7 +1,7 @@
 //! The functions for programs in C, and in other languages by way of C. They are declared in
 //! `include/aries.h`. The caller owns all buffers, and no file is touched.
 //!
-//! The door: [`aries_recover`] and [`aries_audit`] for files of an engine, and the calls
+//! Entry points: [`aries_recover`] and [`aries_audit`] for files of an engine, and the calls
 //! `aries_journal_...` for an engine that runs.
 //!
 //! The promise: a call that returns 0 has written its result to the buffers of the caller. Any

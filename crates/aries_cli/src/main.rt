@@ -1,7 +1,7 @@
 //! The program `aries`: it passes its words and streams to [`aries::run`], which does the rest. See
 //! `crates/aries/src/program.rt`.
 //!
-//! The door: `main`.
+//! Entry point: `main`.
 //!
 //! It promises nothing: `tests/run.py` tests what it prints and its exit status.
 #![tactic(auto)]

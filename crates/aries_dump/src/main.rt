@@ -1,7 +1,7 @@
 //! The program `aries_dump`: it lists what a log or a store holds, one record or page a line. It
 //! uses no crate of recovery.
 //!
-//! The door: `main`.
+//! Entry point: `main`.
 //!
 //! The promise is that of `dump` for the lines. Which file is read, what is printed before a fault,
 //! and the exit status are tested.

@@ -1,8 +1,8 @@
 //! A board: the work queue of redo's workers. It hands out the numbers of the parts, each once, by
 //! single atomic steps on shared words. No other crate uses atomic operations.
 //!
-//! The door: `Board::new` makes a [`Board`] and its first [`Seat`]; `split` cuts a seat for each
-//! thread, `draw` takes the next number, `join` and `close` end it.
+//! Entry points: `Board::new` makes a [`Board`] and its first [`Seat`]; `split` cuts a seat for
+//! each thread, `draw` takes the next number, `join` and `close` end it.
 //!
 //! The promise: the numbers that the seats draw are distinct, and no number is left if the seats
 //! have seen the end of each range.

@@ -2,7 +2,7 @@
 //! and the slots into which something is put. So a large store takes 12 bytes for each page that
 //! stays as it is.
 //!
-//! The door: the trait [`Pages`], which redo and undo use. Pages in memory implement it, and
+//! Entry points: the trait [`Pages`], which redo and undo use. Pages in memory implement it, and
 //! [`Changes`] does; `Changes::change_images` then changes the images of the pages.
 //!
 //! The promise: what is put into slots shows in the pages as [`page::Page::set`] would have it, in

@@ -1,7 +1,8 @@
 //! The command line of `aries`: from its words to a job. `clap` reads the options; this crate says
 //! what they are, and checks the ranges of the numbers.
 //!
-//! The door: [`command_of`] returns a [`Job`], or a [`Refusal`] with a message and an exit status.
+//! Entry points: [`command_of`] returns a [`Job`], or a [`Refusal`] with a message and an exit
+//! status.
 //!
 //! The promise: a job is what the arguments ask for, with its numbers in their ranges; only a line
 //! without a mistake has one.

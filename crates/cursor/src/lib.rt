@@ -1,7 +1,7 @@
 //! A log in bytes that is read record by record, from any record on; and where a log in bytes ends.
 //!
-//! The door: [`log_begin`] and [`next_record`], and [`log_end`]. No call allocates memory, and none
-//! reads more than it says.
+//! Entry points: [`log_begin`] and [`next_record`], and [`log_end`]. No call allocates memory, and
+//! none reads more than it says.
 //!
 //! The promise: the record after a mark is the next one of the log. As many bytes as `log_end` says
 //! are a log without a torn tail, and no longer beginning of them is.

@@ -1,9 +1,9 @@
 //! Devices: what bytes are read from and written to. Each may fail at any call. Recovery knows only
 //! their traits, so it runs over files, over memory and over devices of yours.
 //!
-//! The door: the traits [`Source`] and [`Sink`], [`Reread`] for a source that can be read again,
-//! and [`Continue`] for a log that is continued in place. [`read_all`] and [`write_all`] move all
-//! bytes.
+//! Entry points: the traits [`Source`] and [`Sink`], [`Reread`] for a source that can be read
+//! again, and [`Continue`] for a log that is continued in place. [`read_all`] and [`write_all`]
+//! move all bytes.
 //!
 //! The promise: an error means that the device failed. If the contract of a device knows its bytes,
 //! it says which were read or written, and which are flushed.

@@ -1,6 +1,6 @@
 //! What a log or a store holds, in lines that people and programs read.
 //!
-//! The door: [`list_log`] and [`list_store`]. A [`Choice`] says which records are asked for, a
+//! Entry points: [`list_log`] and [`list_store`]. A [`Choice`] says which records are asked for, a
 //! [`Style`] how a line is written.
 //!
 //! The promise: there is a line for each record or page that is asked for. A damaged log is listed

@@ -1,6 +1,6 @@
 //! The command line of `aries_dump`: from its words to a job.
 //!
-//! The door: [`dump_of`] returns a [`Job`], or a refusal with a message and an exit status.
+//! Entry points: [`dump_of`] returns a [`Job`], or a refusal with a message and an exit status.
 //!
 //! The promise: a job is what the arguments ask for; only a line without a mistake has one.
 //!

@@ -1,7 +1,7 @@
 //! The files of a job, as both programs see them: what is noted of each while it is read or
 //! written, the lock of a log, and what lies next to a log.
 //!
-//! The door: [`NotedFile`] wraps a file, and [`Notes`] has what was noted; [`try_lock`] locks a
+//! Entry points: [`NotedFile`] wraps a file, and [`Notes`] has what was noted; [`try_lock`] locks a
 //! log; [`notice`] prints why a log may not be whole.
 //!
 //! The promise: a noted file passes the bytes of the file on as they are. The lines and the lock

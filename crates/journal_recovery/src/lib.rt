@@ -1,8 +1,8 @@
 //! Recovery of the files that an engine left whose log a journal writes. It has no premise about
 //! the log: the engine may have stopped at any moment.
 //!
-//! The door: [`recover_crashed`] in memory, and [`recover_crashed_devices`] over devices and with
-//! threads. For any other recovery, [`left_is_lawful`] shows the premise.
+//! Entry points: [`recover_crashed`] in memory, and [`recover_crashed_devices`] over devices and
+//! with threads. For any other recovery, [`left_is_lawful`] shows the premise.
 //!
 //! The promise: the recovery leaves exactly the effects of the committed transactions and of those
 //! in doubt, and each commit that was forced is kept. With valid options the only errors are fault

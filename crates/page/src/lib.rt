@@ -1,7 +1,7 @@
 //! The pages of a store, and the only encoding of a store in bytes: a header and the images of its
 //! pages. It also has the faults of all crates, and the limits of the files.
 //!
-//! The door: [`decode_store`] makes a [`Store`] of bytes, and [`encode_store`] the reverse.
+//! Entry points: [`decode_store`] makes a [`Store`] of bytes, and [`encode_store`] the reverse.
 //! [`StoreReader`] and [`LsnReader`] take the bytes piece by piece.
 //!
 //! The promise: bytes are read as a store if and only if they are its one encoding, and an error is

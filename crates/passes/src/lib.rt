@@ -1,7 +1,7 @@
 //! The passes of a restart over a log that a device holds. The log is read in pieces, so it may be
 //! longer than memory.
 //!
-//! The door: [`restart_in_pieces`]. It takes pages in memory, or only what changes in them.
+//! Entry points: [`restart_in_pieces`]. It takes pages in memory, or only what changes in them.
 //!
 //! The promise: what it returns, and what it makes of the pages, is what a restart in memory
 //! returns and makes.

@@ -1,8 +1,8 @@
 //! A log of any length, read in pieces. A piece is a small log: its base LSN is the LSN of the last
 //! record before it.
 //!
-//! The door: [`first_mark`] finds the place before the first record, [`read_piece`] reads the bytes
-//! after a [`Mark`] into a buffer, and [`piece_log`] makes a log of them.
+//! Entry points: [`first_mark`] finds the place before the first record, [`read_piece`] reads the
+//! bytes after a [`Mark`] into a buffer, and [`piece_log`] makes a log of them.
 //!
 //! The promise: each record of a piece is in the whole log, at the same LSN.
 //!

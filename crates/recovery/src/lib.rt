@@ -1,7 +1,7 @@
 //! Recovery: from the bytes of a log and a store to a new log, a recovered store and a report. And
 //! the audit of such bytes.
 //!
-//! The door: [`recovery_alone`] from buffer to buffer, and [`recover`] over devices.
+//! Entry points: [`recovery_alone`] from buffer to buffer, and [`recover`] over devices.
 //! [`recover_copying`] and, in place, [`recover_by_pieces`] hold a piece of the log in memory;
 //! [`recover_large_copying`] and [`recover_large_by_pieces`] a piece of the log and one of the
 //! store. [`recover_in_place`] holds the whole log.

@@ -1,7 +1,7 @@
 //! Redo, the second pass of a restart: it repeats history on the pages of a store. It notes for
 //! each slot the last record that a page lacks, and only then puts the images of these records in.
 //!
-//! The door: [`redo`] with workers, [`redo_alone`] without threads, and [`TallyScan`] for a log
+//! Entry points: [`redo`] with workers, [`redo_alone`] without threads, and [`TallyScan`] for a log
 //! that is read in pieces. A [`Gate`] is a hook that is called for each part.
 //!
 //! The promise: each page gets the records that ARIES applies, in order, for every number of

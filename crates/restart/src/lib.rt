@@ -1,6 +1,6 @@
 //! A restart on values: analysis, redo and undo over a log and a store in memory.
 //!
-//! The door: [`restart`] with workers, and [`restart_alone`] without threads.
+//! Entry points: [`restart`] with workers, and [`restart_alone`] without threads.
 //!
 //! The promise, the headline of `docs/PROOFS.md`: from a lawful log and its store a restart appends
 //! the log's tail, and leaves exactly the effects of the committed and in-doubt transactions.

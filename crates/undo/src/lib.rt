@@ -1,8 +1,8 @@
 //! Undo, the third pass of a restart: it rolls the losers back, the newest update first. It appends
 //! a CLR for each update and an end for each loser, and changes the pages.
 //!
-//! The door: [`undo`] takes a log and pages in memory. [`undo_on`] takes any [`changes::Pages`],
-//! and records in memory or gathered from pieces ([`Looked`]).
+//! Entry points: [`undo`] takes a log and pages in memory. [`undo_on`] takes any
+//! [`changes::Pages`], and records in memory or gathered from pieces ([`Looked`]).
 //!
 //! The promise: the losers are rolled back, those in doubt stay as they are, and each page is as
 //! the appended records make it. On a lawful log with true tables these records are the tail of the

@@ -1,8 +1,8 @@
 //! What the command lines of `aries` and `aries_dump` have in common: the words that the program
 //! was given, errors, flags, and how a run with an error ends.
 //!
-//! The door: [`words_of`] and [`slices_of`] for the words of the system, [`Refusal`] and [`refuse`]
-//! for runs that end at once.
+//! Entry points: [`words_of`] and [`slices_of`] for the words of the system, [`Refusal`] and
+//! [`refuse`] for runs that end at once.
 //!
 //! The promise: a run that ends at once has the exit status of its error: 2 for a wrong line, 1 for
 //! a fault, 0 for help.
