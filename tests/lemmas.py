@@ -19,18 +19,9 @@ from program import TOP, text_of
 EXAMPLES = re.compile(r"/(Rows|PreparedRows|RowsOf\w+|Counterexamples)\.antt$")
 # By file and name: what is meant to be named nowhere, with the reason.
 EXAMPLE = "an example of a command line"
-WAITS = "no proof cites it any more: it goes with the next change of its crate"
 MEANT = {
     "Lines": dict.fromkeys(("words_without_fault", "in_place_without_fault", "in_place_named", "not_both", "words_at_fault", "flag_given",
                             "flag_left_out", "number_left_out"), EXAMPLE),
-    "BlockIndex": dict.fromkeys(("put_sized", "put_kept"), WAITS),
-    "Glances": {"then_some": WAITS},
-    "Histories": {"record_of_item": WAITS},
-    "Holders": {"holder_from_strict": WAITS},
-    "Keeping": {"four_apart": WAITS},
-    "NextFrame": {"found_size": WAITS},
-    "Rising": dict.fromkeys(("begins", "is_wrong"), WAITS),
-    "Whole": {"image_length": WAITS},
 }
 
 NAME = re.compile(r"[^\s(){}\[\],;.:|`\"]+")

@@ -59,11 +59,6 @@ module _ (old new : BlockIndex) (number place bucket entry : ℕ) (put : IsPut o
   same_bucket : (hash : ℕ) → bucket_of new hash ≡ bucket_of old hash
   same_bucket hash = ap (home_of hash) count
 
-  pub put_sized : length new.places.items ≡ length new.tags.items
-  put_sized =
-      ap (λ (x : List (List ℕ)). length x) put.places
-      ∙ (length-set old.places.items bucket (set (get_or old.places.items bucket []) entry place) ∙ (put.sized ∙ sym count))
-
   tag_after : (j l : ℕ) → (bucket ≡ j → entry ≢ l) → tag_at new j l ≡ tag_at old j l
   tag_after j l d = ap (λ (x : List (List ℕ)). entry_of x j l) put.tags ∙ entry_set_other old.tags.items bucket entry (tag_of (hash_of number)) j l put.bucket_within d
 
@@ -72,22 +67,6 @@ module _ (old new : BlockIndex) (number place bucket entry : ℕ) (put : IsPut o
 
   new_tag : tag_at new bucket entry ≡ tag_of (hash_of number)
   new_tag = ap (λ (x : List (List ℕ)). entry_of x bucket entry) put.tags ∙ entry_set old.tags.items bucket entry (tag_of (hash_of number)) put.bucket_within (omega (arith, put.entry_within, put.tags_count))
-
-  new_place : place_at new bucket entry ≡ place
-  new_place = ap (λ (x : List (List ℕ)). entry_of x bucket entry) put.places ∙ entry_set old.places.items bucket entry place (omega (arith, put.bucket_within, put.sized)) (omega (arith, put.entry_within, put.places_count))
-
-  here : bucket_of new (hash_of number) ≡ bucket
-  here = same_bucket (hash_of number) ∙ sym put.home
-
-  pub put_kept : IsKept new number place
-  put_kept = inl (
-    entry,
-    record {
-      within = put.entry_within;
-      tagged = ap (λ b. tag_at new b entry) here ∙ new_tag;
-      placed = ap (λ b. place_at new b entry) here ∙ new_place;
-    },
-  )
 
   full_after : (hash : ℕ) → IsFull old hash → IsFull new hash
   full_after hash full lt =

@@ -1,6 +1,6 @@
 //! The audit: whether a log and a store are lawful.
 //!
-//! The door: [`audit`], and [`audit_from`] for a log that continues a base store.
+//! Entry points: [`audit`], and [`audit_from`] for a log that continues a base store.
 //!
 //! The promise: the result is Ok exactly for lawful inputs; otherwise it is the first broken law. No
 //! choice of transaction numbers makes an audit slow.

@@ -149,14 +149,6 @@ record_behind log (x ∷ xs) (suc i) d h = ap (record_at ((log ▸ x) ▸▸ xs)
 pub record_item : (log : LogContent) (i : ℕ) (d : LogRecord) → i < length log.records → record_at (history log) (lsn_before log.begins + i + 1) ≡ Some (get_or log.records i d)
 record_item log i d lt = ap (record_at (history log)) (omega arith) ∙ record_behind (start (lsn_before log.begins)) log.records i d lt
 
--- so it is in a log that is made item by item
-pub record_of_item : {A : Type 0} (base : ℕ) (f : A → LogRecord) (xs : List A) (n : ℕ) (d : A) → base < n → n ≤ base + length xs
-    → record_at (start base ▸▸ map f xs) n ≡ Some (f (get_or xs (n - base - 1) d))
-record_of_item base f xs n d p h =
-    ap (record_at (start base ▸▸ map f xs)) (omega (arith, p))
-    ∙ record_behind (start base) (map f xs) (n - base - 1) (f d) (omega (arith, p, h, length-map xs f))
-    ∙ ap (λ y. Some y) (get_or-map f xs (n - base - 1) d (f d) (omega (arith, p, h)))
-
 -- ---- the log up to an LSN
 
 pub first_all : (lsn : ℕ) (log : History) → last_lsn log ≤ lsn → first lsn log ≡ log

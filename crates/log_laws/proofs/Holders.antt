@@ -159,13 +159,6 @@ pub strict_from_holder : (base : BasePages) (log : History) → IsLawful base lo
 strict_from_holder base log h u free other n w =
     true_from_ne_false (finished other log) (λ f. n (free other (holds base log h u.page u.slot other w f)))
 
-pub holder_from_strict : (base : BasePages) (log : History) → IsLawful base log → (u : UpdateRecord) → Strictness log (Update u) → (t : ℕ) → holder u.page u.slot log ≡ Some t → t ≡ u.tx
-holder_from_strict base log h u strict t e =
-    elim (cases_eq t u.tx) [
-      | inl i ↦ i
-      | inr n ↦ (let k = held base log h u.page u.slot t e in absurd (both_ways (finished t log) k.0 (strict t n k.1)))
-    ]
-
 -- THE LAST WRITER
 -- the last writer of a cell has touched it
 pub last_touches : (page slot t : ℕ) (log : History) → last_writer page slot log ≡ Some t → touches t page slot log ≡ true

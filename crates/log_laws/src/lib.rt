@@ -1,6 +1,6 @@
 //! What a log means: the definitions on which all that is proved rests, and their laws.
 //!
-//! The door: the definitions in `specs/`, in this order: the records (`Records`); the transactions and
+//! Entry points: the definitions in `specs/`, in this order: the records (`Records`); the transactions and
 //! cells that they leave (`Meaning`); what a record may be after those before it (`Laws`); the records
 //! by which a restart rolls back the losers (`Tail`); the hops of undo (`Hops`); which records redo
 //! applies (`Redo`); the pages, the checkpoint and the store that go with a log (`Pages`,

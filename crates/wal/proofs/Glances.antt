@@ -11,10 +11,6 @@ use Rattle.wal.specs.Frames.{IsBody}
 use Rattle.wal.specs.Glances.{glance_of, update_glance, compensation_glance, plain_glance, fields_glance, body_glance}
 use Rattle.wal.proofs.Fields.{bind_some, guard_ended}
 
--- what comes after a step that gave something
-then_some : {A B : Type 0} (r : Option A) (x : A) (g : A → Option B) → r ≡ Some x → (r >>= g) ≡ g x
-then_some r x g e = rw e refl
-
 update_seen : (bytes : List ℕ) (x : LogRecord × List ℕ) → update_at bytes ≡ Some x → update_glance bytes ≡ Some (glance_of x.0)
 unfolding update_at update_glance
 update_seen bytes x e =

@@ -32,7 +32,3 @@ head_three old head a b c m1 m2 m3 m4 p q r s = rw (s, r, q, p) (simp append_ass
 -- the parts of a frame's head
 pub head_parts : (old length lsn fields new : List ℕ) (kind : ℕ) → new ≡ old ++ ((length ++ (kind ∷ lsn)) ++ fields) → new ≡ old ++ (length ++ (kind ∷ lsn ++ fields))
 head_parts old length lsn fields new kind p = rw p (simp append_assoc)
-
--- four writes in a row
-pub four_apart : (old a b c d m1 m2 m3 m4 : List ℕ) → m1 ≡ old ++ a → m2 ≡ m1 ++ b → m3 ≡ m2 ++ c → m4 ≡ m3 ++ d → m4 ≡ old ++ (a ++ (b ++ (c ++ d)))
-four_apart old a b c d m1 m2 m3 m4 p q r s = rw (s, r, q, p) (simp append_assoc)

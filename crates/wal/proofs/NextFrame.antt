@@ -44,8 +44,3 @@ no_frame_none next r size none e = (let both : ◌≡◌ {A = Result (Option ℕ
 
 pub no_frame_fault : (next : Result (Option (LogRecord × ℕ)) Fault) (r : LogRecord) (size : ℕ) (f : Fault) → size_in next ≡ Err f → next ≡ Ok (Some (r, size)) → ⊥
 no_frame_fault next r size f wrong e = (let both : ◌≡◌ {A = Result (Option ℕ) Fault} (Err f) (Ok (Some size)) = sym wrong ∙ ap size_in e in absurd cc)
-
--- WHAT A SIZE SAYS
-pub found_size : (B : Type 0) (next : Result (Option (LogRecord × ℕ)) Fault) (found : Option ℕ) → B → size_in next ≡ Ok found → IfSome found (λ size. B × (r : LogRecord) × (next ≡ Ok (Some (r, size))))
-found_size B next None b e = tt
-found_size B next (Some size) b e = (let one = sized next size e in (b, one.0, one.1))

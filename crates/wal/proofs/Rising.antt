@@ -25,9 +25,6 @@ module _ {X : Type 0} (number : X → ℕ) (P : X → Type 0) (xs : List X) wher
     pub each : All P (take i xs)
     pub rising : RisesFrom 0 (map number xs) ↔ RisesFrom low (drop i (map number xs))
 
-  pub begins : Looked 0 0
-  begins = record { each = λ i d lt. absurd (omega (arith, lt)); rising = (λ h. h, λ h. h) }
-
   next : (i : ℕ) (d : X) → i < length xs → drop i (map number xs) ≡ number (get_or xs i d) ∷ drop (i + 1) (map number xs)
   next i d lt =
       let more : i + 1 ≡ suc i = omega arith in
@@ -47,9 +44,6 @@ module _ {X : Type 0} (number : X → ℕ) (P : X → Type 0) (xs : List X) wher
   falls i low d lt less looked right =
       let rises = subst (RisesFrom low) (next i d lt) (looked.rising.0 (rising_from_0 (map number xs) right.1)) in
       absurd (omega (arith, rises.0, less))
-
-  pub is_wrong : (i : ℕ) (d : X) → i < length xs → (P (get_or xs i d) → ⊥) → AreRight → ⊥
-  is_wrong i d lt wrong right = wrong (right.0 i d lt)
 
   pub done : (i low : ℕ) → length xs ≤ i → Looked i low → AreRight
   done i low le looked =

@@ -53,9 +53,6 @@ found_frame lsn bytes r size fits found =
     sym (take-append-drop 4 bytes) ∙ ap (λ (x : List ℕ). take 4 bytes ++ x) (sym (take-append-drop (length_of bytes) (drop 4 bytes)) ∙ ap (λ (x : List ℕ). body_of bytes ++ x) back) in
     (parts ∙ sym (append_assoc (take 4 bytes) (body_of bytes) (drop size bytes)) ∙ ap (λ (x : List ℕ). x ++ drop size bytes) (sym spelled), inner.1, inner.2)
 
-image_length : (o : List ℕ) → length o ≤ VALUE_BYTES → length (image (Some o)) ≤ 1 + VALUE_BYTES
-image_length o h = omega arith
-
 image_size : (i : Option (List ℕ)) → FitsSlot i → length (image i) ≤ 1 + VALUE_BYTES
 image_size None h = omega arith
 image_size (Some o) h = omega (arith, h)

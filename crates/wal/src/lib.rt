@@ -1,6 +1,6 @@
 //! The log in bytes: its records, their frames, and how a log is read.
 //!
-//! The door: [`read_log`] reads a log that stays in its bytes, [`Log`] looks up its records, and
+//! Entry points: [`read_log`] reads a log that stays in its bytes, [`Log`] looks up its records, and
 //! [`write_frame`] appends the frame of a record. [`read_log_by`] reads with several threads.
 //!
 //! The promise: bytes are a log and a torn tail if and only if the format says so; a record has
