@@ -67,17 +67,18 @@ def kept_lines():
     return {line.split()[0]: line for line in lines if line.strip()}
 
 
+def never_tried():
+    """The crates that have no line: not all of their edits were tried and refused."""
+    kept = kept_lines()
+    return [crate for crate in crates_with_others() if crate not in kept]
+
+
 def to_try():
     """Of each crate whose edits have to be tried again its name, and what differs from its line."""
-    kept = kept_lines()
-    for crate in crates_with_others():
-        if crate not in kept:
-            yield crate, "it has no line"
-            continue
-        _, *new = line_of(crate).split()
-        _, *old = kept[crate].split()
+    for crate, line in kept_lines().items():
+        new, old = line_of(crate).split(), line.split()
         if new != old:
-            yield crate, "other sources or contracts" if new[:1] != old[:1] else "other edits"
+            yield crate, "other sources or contracts" if new[1] != old[1] else "other edits"
 
 
 def keep(*lines):

@@ -1,8 +1,7 @@
 -- The record at an LSN, and the log up to an LSN.
 use Rattle.std.proofs.lemmas.Bool.{cases_eq, cases_Bool, le-ltb, lt-ltb, ltb-true, ltb-false}
 use Rattle.std.proofs.lemmas.Option.{same_Some}
-use Rattle.std.proofs.Common.{ne_eqb, eq-eqb, eqb, ltb, eqb-true, false, inl, inr, ◌⊎◌, ℕ, suc, zero, ◌≡◌, ◌+◌, ◌-◌, ◌<◌, ◌≤◌, List, [], ◌∷◌, ◌++◌, Some, None, refl, subst, sym, ap₂, length, take, get_or, map, ap, ◌∙◌, arith, true}
-use Rattle.std.proofs.lemmas.List.{length-map, get_or-map}
+use Rattle.std.proofs.Common.{ne_eqb, eq-eqb, eqb, ltb, eqb-true, false, inl, inr, ◌⊎◌, ℕ, suc, zero, ◌≡◌, ◌+◌, ◌-◌, ◌<◌, ◌≤◌, List, [], ◌∷◌, ◌++◌, Some, None, refl, subst, sym, ap₂, length, take, get_or, ap, ◌∙◌, arith, true}
 use Rattle.std.specs.Prelude.{All}
 use Rattle.log_laws.specs.Records.{LogRecord, History, start, ◌▸◌, ◌▸▸◌, lsn_before, LogContent, history, ◌⧺◌, up_to, last_lsn, base_lsn, record_at, first}
 use Rattle.log_laws.specs.Meaning.{is_of, last_of, has}

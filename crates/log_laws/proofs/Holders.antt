@@ -1,6 +1,6 @@
 -- The holder of a cell: the transaction of its last update or CLR, until that transaction finishes.
 use Rattle.std.proofs.Common.{ℕ, suc, ◌≡◌, Bool, true, false, cond, ◌||◌, ◌&&◌, not, Option, Some, None, refl, sym, ap, ap₂, ◌∙◌, inl, inr, eq-eqb, eqb-true, eqb}
-use Rattle.std.proofs.lemmas.Bool.{true_from_ne_false, cases_eq, cases_Bool, false≢true, eqb-false, or_left, or_right, or_parts, or_from, both_ways, and_parts, and_from, and_left, and_right, not-true}
+use Rattle.std.proofs.lemmas.Bool.{true_from_ne_false, cases_Bool, false≢true, eqb-false, or_left, or_right, or_parts, or_from, both_ways, and_parts, and_from, and_left, and_right, not-true}
 use Rattle.log_laws.specs.Records.{UpdateRecord, CompensationRecord, LogRecord, Update, Compensation, Commit, End, History, start, ◌▸◌, last_lsn, record_at}
 use Rattle.log_laws.specs.Meaning.{BasePages, pending, finished, committed, ended, is_unfinished, is_of, touches, writes, has, owner, is_owned_by, last_writer}
 use Rattle.log_laws.specs.Laws.{IsLawful, Compensates, Strictness}

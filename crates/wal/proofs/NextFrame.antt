@@ -1,6 +1,6 @@
 -- The frame at the front, by its size only.
 use Rattle.std.proofs.Common.{◌≡◌, ◌≢◌, ℕ, Option, Some, None, Result, Ok, Err, refl, sym, ap, ◌∙◌, eq-eqb, ne_eqb}
-use Rattle.std.specs.Prelude.{option_map, IfSome}
+use Rattle.std.specs.Prelude.{option_map}
 use Rattle.page.specs.declared.fault.Fault.{Fault}
 use Rattle.page.specs.declared.fault.Fault.TheVariants.{NoResource, BadRecord, BadLsn}
 use Rattle.log_laws.specs.Records.{LogRecord}
