@@ -5,7 +5,8 @@ usage: profiles/build.py NAME           proves all crates of the programs and of
        profiles/build.py NAME CRATE..   proves these crates, and those that they use
 
 The tracked files are copied to out/NAME; what an earlier run proved there is kept. The profile, `profiles/NAME.profile`, takes the place of
-`crates/page/src/profile.rt`, and nothing else is changed. The header of the C library with the sizes of the profile is made in
+`crates/page/src/profile.rt`, and `profiles/NAME.page_numbers` and `profiles/NAME.wal_numbers` take that of the definitions `specs/Numbers.antt` of
+`page` and `wal`, which say what the numbers are; nothing else is changed. The header of the C library with the sizes of the profile is made in
 out/NAME/include. The tests are the worked rows with the magics and the pages of the profile, and the bank, which is killed. The last line
 says which crates are proved; the status is 1 if one is not, or if a test fails.
 """
@@ -21,6 +22,8 @@ from row_files import PROFILE, TOP, number_in, wrong_rows
 PROGRAMS = ("aries_cli", "aries_dump")
 ROW_RUNNER, LIBRARY = "row_files", "aries_c"
 KILLS = 300  # of the bank
+# The files that a profile replaces, and the ending of what it puts there.
+REPLACED = {PROFILE: "profile", "crates/page/specs/Numbers.antt": "page_numbers", "crates/wal/specs/Numbers.antt": "wal_numbers"}
 HEADER = "include/aries.h"
 # The sizes that the header has, by their names in a profile. It makes its other sizes of these.
 SIZES = ("PAGES", "SLOTS", "PAGE_BYTES", "VALUE_BYTES", "TRANSACTIONS")
@@ -53,11 +56,11 @@ def crates_below(names):
     return ordered
 
 
-def copy_to(folder, profile):
+def copy_to(folder, name):
     """Copies what differs, so that a later run proves only that again."""
     tracked = subprocess.run(["git", "ls-files", "-z", "crates", "crates.txt", "HANDLES"], cwd=TOP, capture_output=True, check=True, text=True)
     for path in filter(None, tracked.stdout.split("\0")):
-        source = profile if path == PROFILE else os.path.join(TOP, path)
+        source = os.path.join(TOP, f"profiles/{name}.{REPLACED[path]}" if path in REPLACED else path)
         target = os.path.join(folder, path)
         with open(source, "rb") as file:
             text = file.read()
@@ -117,7 +120,7 @@ def main():
     name, wanted = sys.argv[1], sys.argv[2:]
     profile = os.path.join(TOP, "profiles", f"{name}.profile")
     folder = os.path.join(TOP, "out", name)
-    copy_to(folder, profile)
+    copy_to(folder, name)
     make_header(folder, profile)
     crates = crates_below(wanted or [*PROGRAMS, ROW_RUNNER, LIBRARY])
     proved = []

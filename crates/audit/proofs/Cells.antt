@@ -1,10 +1,9 @@
 -- The last writer of a cell, and what it leaves there.
-use Rattle.std.proofs.Common.{◌≡◌, ◌≤◌, ◌&&◌, ℕ, suc, true, Some, refl, ap, ◌∙◌, inl, inr, arith, eqb, eq-eqb}
-use Rattle.std.proofs.lemmas.Bool.{cases_Bool, or_left, or_right, and_from}
-use Rattle.log_laws.specs.Records.{Update, Compensation, Commit, End, History, start, ◌▸◌, last_lsn, record_at}
-use Rattle.log_laws.specs.Meaning.{BasePages, owner, is_owned_by, replay, writes, is_of, touches, last_writer}
+use Rattle.std.proofs.Common.{◌≡◌, ◌≤◌, ℕ, suc, refl, ap, ◌∙◌, inl, inr, arith, eq-eqb}
+use Rattle.std.proofs.lemmas.Bool.{cases_Bool}
+use Rattle.log_laws.specs.Records.{History, start, ◌▸◌, last_lsn, record_at}
+use Rattle.log_laws.specs.Meaning.{BasePages, replay, writes}
 use Rattle.log_laws.proofs.Histories.{record_older}
-use Rattle.log_laws.proofs.Holders.{holder, release_keeps}
 use Rattle.audit.specs.Cells.{image_or, last_write}
 
 pub last_write_within : (page slot : ℕ) (log : History) → last_write page slot log ≤ last_lsn log

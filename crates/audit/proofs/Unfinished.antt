@@ -1,12 +1,12 @@
 -- Unfinished transactions, and those in doubt, by what is known of each.
-use Rattle.std.proofs.Common.{◌≡◌, ◌&&◌, not, ℕ, suc, Bool, true, false, List, Option, Some, None, refl, sym, ap, ap₂, ◌∙◌, inl, inr, arith, eqb, eq-eqb, ne_eqb, cond, get_or, subst}
+use Rattle.std.proofs.Common.{◌≡◌, ◌&&◌, not, ℕ, Bool, true, false, List, Option, Some, None, refl, sym, ap, ap₂, ◌∙◌, inl, inr, arith, eqb, eq-eqb, ne_eqb, cond, get_or, subst}
 use Rattle.std.proofs.lemmas.Bool.{cases_Bool, cases_eq, or_cases, or_left, or_right, false≢true, both_ways}
 use Rattle.std.specs.Prelude.{◌%◌, ◌⊎◌, is_some}
 use Rattle.std.specs.Ordering.{nat_cmp}
 use Rattle.std.specs.BTreeMap.{get}
 use Rattle.std.proofs.Math.Nat.{mod-lt}
-use Rattle.log_laws.specs.Records.{LogRecord, Prepare, History, start, ◌▸◌, last_lsn}
-use Rattle.log_laws.specs.Meaning.{is_of, is_prepare_of, has, prepared, aborted, in_doubt, is_unfinished, finished, last_of}
+use Rattle.log_laws.specs.Records.{LogRecord, Prepare, History, start, ◌▸◌}
+use Rattle.log_laws.specs.Meaning.{is_of, is_prepare_of, has, prepared, aborted, in_doubt, is_unfinished, finished}
 use Rattle.log_laws.proofs.Histories.{has_none, has_some}
 use Rattle.audit.specs.declared.status.Status.{Status}
 use Rattle.audit.specs.declared.standing.Finish.{Finish}

@@ -3,7 +3,7 @@ use Rattle.page.specs.Image.{Image}
 use Rattle.std.specs.Prelude.{Option, Some, None, ◌≡◌, ◌<◌, ◌+◌, ◌*◌, ℕ, suc, List, length, IfSome, if◌then◌else◌, slice_index_or, slice_set}
 use Rattle.std.specs.Option.{option_map_or}
 use Rattle.log_laws.specs.Records.{LogRecord, History, start, ◌▸◌, last_lsn}
-use Rattle.log_laws.specs.Meaning.{BasePages, owner, change_of, image_of, writes, replay}
+use Rattle.log_laws.specs.Meaning.{BasePages, owner, change_of, image_of, writes, replay, last_writer}
 use Rattle.page.specs.declared.profile.TheConstants.{SLOTS}
 use Rattle.audit.specs.declared.cell.Cell.{Cell}
 

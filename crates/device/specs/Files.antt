@@ -28,6 +28,10 @@ written_file sink = sink.file
 abbrev pub write_failures : {F : Type 0} → FileSink F → ℕ
 write_failures sink = sink.failures.count
 
--- how often a log that is continued failed
+-- the file of a log that is continued
+abbrev pub log_file : {F : Type 0} → FileLog F → F
+log_file log = log.sink.file
+
+-- how often it failed
 abbrev pub log_failures : {F : Type 0} → FileLog F → ℕ
 log_failures log = log.sink.failures.count

@@ -7,7 +7,7 @@ ghost use Rattle.std.specs.Prelude.{◌≡◌, IfOk, ◌<◌, length};
 ghost use Rattle.std.specs.Io.{ReadsAtMost, WritesAtMost};
 ghost use Rattle.std.specs.Io.KnownBytes.{Keeps, ReadConsumes, WriteAppends};
 ghost use Rattle.device.specs.Failures.{Counts};
-ghost use Rattle.device.specs.Files.{ReadsThere, read_file, read_failures, written_file, write_failures, log_failures};
+ghost use Rattle.device.specs.Files.{ReadsThere, read_file, read_failures, written_file, write_failures, log_file, log_failures};
 
 use crate::{Continue, Failed, Failures, Reread, Sink, Source};
 use std::fs::OpenFile;
@@ -195,8 +195,9 @@ impl<F: Write + OpenFile> Sink for FileSink<F> {
     }
 }
 
-/// A log in an open file that is continued in place. Contracts do not know its bytes, since no file
-/// reports what it holds.
+/// A log in an open file that is continued in place. Contracts know which bytes it writes, but not
+/// those that it holds, since no file reports them. So they do not know what a cut leaves, nor what
+/// is synced.
 #[derive(Drop)]
 pub struct FileLog<F> {
     sink: FileSink<F>,
@@ -205,7 +206,8 @@ pub struct FileLog<F> {
 impl<F> FileLog<F> {
     /// A log in a file that was opened to append: each write goes to the file's end.
     pub fn new(file: F) -> FileLog<F>
-        ensures { log_failures result ≡ 0 }
+        ensures file { log_file result ≡ file }
+        ensures failures { log_failures result ≡ 0 }
     {
         FileLog {
             sink: FileSink::new(file),
@@ -216,11 +218,21 @@ impl<F> FileLog<F> {
 impl<F: Write + OpenFile> Sink for FileLog<F> {
     ghost failures = { log_failures };
 
-    fn write(&mut self, bytes: &[u8]) -> Result<usize, Failed> {
+    fn write(&mut self, bytes: &[u8]) -> Result<usize, Failed>
+        ensures bound { WritesAtMost result bytes.now }
+        ensures progress { IfOk result (λ count. 0 < length bytes.now → 0 < count) }
+        ensures written { WriteAppends (F.contents (log_file self.old))
+            (F.contents (log_file self.new)) result bytes.now }
+        ensures cause { Counts (log_failures self.old) (log_failures self.new) result }
+    {
         self.sink.write(bytes)
     }
 
-    fn flush(&mut self) -> Result<(), Failed> {
+    fn flush(&mut self) -> Result<(), Failed>
+        ensures unwritten { Keeps (F.contents (log_file self.old))
+            (F.contents (log_file self.new)) }
+        ensures cause { Counts (log_failures self.old) (log_failures self.new) result }
+    {
         self.sink.flush()
     }
 }
@@ -238,7 +250,11 @@ fn is_cut<F: OpenFile>(file: &F, length: u64) -> bool {
 
 impl<F: Write + OpenFile> Continue for FileLog<F> {
     /// `Failed` too if the file holds fewer bytes.
-    fn cut(&mut self, length: u64) -> Result<(), Failed> {
+    fn cut(&mut self, length: u64) -> Result<(), Failed>
+        ensures unwritten { Keeps (F.contents (log_file self.old))
+            (F.contents (log_file self.new)) }
+        ensures cause { Counts (log_failures self.old) (log_failures self.new) result }
+    {
         if is_cut(&self.sink.file, length) {
             return Ok(());
         }

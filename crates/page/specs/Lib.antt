@@ -8,4 +8,5 @@ pub mod Lsns
 pub mod Parts
 pub mod Pieces
 pub mod Profile
+pub mod Numbers
 pub mod Store

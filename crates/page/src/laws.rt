@@ -1,6 +1,7 @@
 //! Laws of the encodings, each as the contract of an empty function.
 
 ghost use Rattle.page.specs.Profile.{IsProfile};
+ghost use Rattle.page.specs.Numbers.{AreNumbers};
 ghost use Rattle.page.specs.Laws.{OnePageSpelling, OneStoreSpelling, OneStoreFault, NoFaultOfAStore};
 
 /// The same bytes never encode two pages.
@@ -26,4 +27,9 @@ pub fn no_fault_of_a_store()
 /// The numbers of the profile keep what the proofs need.
 pub fn numbers_of_the_profile()
     ensures { IsProfile }
+{}
+
+/// The numbers and the magics of pages and stores are those of the formats.
+pub fn numbers_of_stores()
+    ensures { AreNumbers }
 {}

@@ -1,4 +1,5 @@
 pub mod Profile
+pub mod Numbers
 pub mod Cut
 pub mod Spelling
 pub mod Reading

@@ -2,6 +2,7 @@
 //! only.
 
 ghost use Rattle.wal.specs.Profile.{IsLogProfile};
+ghost use Rattle.wal.specs.Numbers.{AreLogNumbers};
 ghost use Rattle.wal.specs.Reads.{OneReading, OneLogFault, NoFaultOfALog};
 ghost use Rattle.wal.specs.Cut.{CutsSettle, CutsCompose};
 
@@ -34,4 +35,9 @@ pub fn cuts_compose()
 /// The numbers of the profile keep what logs need.
 pub fn numbers_of_a_log()
     ensures { IsLogProfile }
+{}
+
+/// The numbers of logs are those of the formats.
+pub fn numbers_of_logs()
+    ensures { AreLogNumbers }
 {}

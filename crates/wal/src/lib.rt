@@ -56,7 +56,8 @@ pub use glance::Glance;
 pub use head::FrameHead;
 pub use header::{based_header, header_bytes, plain_header, start_at};
 pub use laws::{
-    cuts_compose, cuts_settle, no_fault_of_a_log, numbers_of_a_log, one_log_fault, one_reading,
+    cuts_compose, cuts_settle, no_fault_of_a_log, numbers_of_a_log, numbers_of_logs, one_log_fault,
+    one_reading,
 };
 pub use log::{Log, first_frames, read_log, read_log_behind, read_log_by};
 pub use log_laws::{LogStart, State};
