@@ -1,6 +1,6 @@
 #!/usr/bin/env python3
 """Looks for sizes that stand as numbers where their names belong. The sizes of the files are in `crates/page/src/profile.rt`; what follows
-from them is in the files `sizes.rt`. A number of these in other code, contracts, definitions or proofs is wrong in another profile.
+from them is in the files `sizes.rt`, and what they are is said in `specs/Numbers.antt` of `page` and `wal`. A number of these in other code, contracts, definitions or proofs is wrong in another profile.
 
 usage: tests/sizes.py    at the top of the repository: each such number
        tests/run.py      fails if there is one
@@ -62,7 +62,7 @@ def paths():
     for pattern in ("src/**/*.rt", "specs/**/*.antt", "proofs/**/*.antt"):
         for path in sorted(glob.glob(f"crates/*/{pattern}", root_dir=TOP, recursive=True)):
             crate, name = path.split("/")[1], path.split("/")[-1]
-            if crate not in TESTS and name not in ("profile.rt", "sizes.rt"):
+            if crate not in TESTS and name not in ("profile.rt", "sizes.rt", "Numbers.antt"):
                 yield path
 
 

@@ -1,7 +1,7 @@
 -- What contracts know of the devices over files (own).
 use Rattle.std.specs.Prelude.{◌≡◌, ℕ, List, Some, IfSome, OnOk, Result}
 use Rattle.std.specs.declared.option.Option.{Option}
-use Rattle.std.specs.Io.KnownBytes.{ReadConsumes}
+use Rattle.std.specs.Io.KnownBytes.{ReadConsumes, WriteAppends}
 use Rattle.device.specs.declared.file.FileSource.{FileSource}
 use Rattle.device.specs.declared.file.FileSink.{FileSink}
 use Rattle.device.specs.declared.file.FileLog.{FileLog}
@@ -31,6 +31,10 @@ write_failures sink = sink.failures.count
 -- the file of a log that is continued
 abbrev pub log_file : {F : Type 0} → FileLog F → F
 log_file log = log.sink.file
+
+-- a write to it appended to its file the bytes that it says it took
+abbrev pub AppendsToLog : {F E : Type 0} → (contents : F → Option (List ℕ)) → (before after : FileLog F) → Result ℕ E → List ℕ → Type 0
+AppendsToLog contents before after result bytes = WriteAppends (contents (log_file before)) (contents (log_file after)) result bytes
 
 -- how often it failed
 abbrev pub log_failures : {F : Type 0} → FileLog F → ℕ

@@ -7,7 +7,7 @@ ghost use Rattle.std.specs.Prelude.{◌≡◌, IfOk, ◌<◌, length};
 ghost use Rattle.std.specs.Io.{ReadsAtMost, WritesAtMost};
 ghost use Rattle.std.specs.Io.KnownBytes.{Keeps, ReadConsumes, WriteAppends};
 ghost use Rattle.device.specs.Failures.{Counts};
-ghost use Rattle.device.specs.Files.{ReadsThere, read_file, read_failures, written_file, write_failures, log_file, log_failures};
+ghost use Rattle.device.specs.Files.{ReadsThere, read_file, read_failures, written_file, write_failures, log_file, log_failures, AppendsToLog};
 
 use crate::{Continue, Failed, Failures, Reread, Sink, Source};
 use std::fs::OpenFile;
@@ -221,8 +221,7 @@ impl<F: Write + OpenFile> Sink for FileLog<F> {
     fn write(&mut self, bytes: &[u8]) -> Result<usize, Failed>
         ensures bound { WritesAtMost result bytes.now }
         ensures progress { IfOk result (λ count. 0 < length bytes.now → 0 < count) }
-        ensures written { WriteAppends (F.contents (log_file self.old))
-            (F.contents (log_file self.new)) result bytes.now }
+        ensures written { AppendsToLog F.contents self.old self.new result bytes.now }
         ensures cause { Counts (log_failures self.old) (log_failures self.new) result }
     {
         self.sink.write(bytes)
