@@ -1,9 +1,9 @@
 #!/usr/bin/env python3
 """Prints the processor seconds that each crate takes in `rt ci`: its proof, its tests, its must-fail edits.
 
-usage: bench/gate.py [--anew] [--log FILE] [--table FILE]
+usage: bench/gate.py [--anew] [--log FILE] [--table FILE] [NAME..]
 
-It runs `rt ci` in the checkout in which it is called, and looks at the processes of that run ten times a second.
+It runs `rt ci` in the checkout in which it is called, for all crates or for these, and looks at the processes of that run ten times a second.
 A check that ends between two looks keeps the seconds that were seen last, so up to a tenth of a second of each is lost;
 the line `not seen` has their sum. `seed` is the check of a crate as it stands, from which its edits begin if there are
 two or more. With --anew nothing that an earlier run kept is used, as on a new machine. --log takes what `rt ci` prints,
@@ -112,10 +112,11 @@ def main():
     parser.add_argument("--anew", action="store_true")
     parser.add_argument("--log", default=os.devnull)
     parser.add_argument("--table", default=os.devnull)
+    parser.add_argument("names", nargs="*", metavar="NAME")
     chosen = parser.parse_args()
     began, before = time.monotonic(), os.times()
     with open(chosen.log, "w") as log:
-        words = ["rt", "ci"] + ["--anew"] * chosen.anew
+        words = ["rt", "ci"] + ["--anew"] * chosen.anew + chosen.names
         run = subprocess.Popen(words, stdout=log, stderr=subprocess.STDOUT, stdin=subprocess.DEVNULL)
         meter = Meter(run.pid)
         while run.poll() is None:
