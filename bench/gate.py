@@ -6,8 +6,8 @@ usage: bench/gate.py [--anew] [--log FILE] [--table FILE] [NAME..]
 It runs `rt ci` in the checkout in which it is called, for all crates or for these, and looks at the processes of that run ten times a second.
 A check that ends between two looks keeps the seconds that were seen last, so up to a tenth of a second of each is lost;
 the line `not seen` has their sum. `seed` is the check of a crate as it stands, from which its edits begin if there are
-two or more. With --anew nothing that an earlier run kept is used, as on a new machine. --log takes what `rt ci` prints,
-and --table a copy of the table.
+two or more; `again` is what a change of the crate takes, with all crates that stand on it. With --anew nothing that an
+earlier run kept is used, as on a new machine. --log takes what `rt ci` prints, and --table a copy of the table.
 """
 
 import argparse
@@ -94,15 +94,29 @@ class Meter:
         return sums
 
 
+def crates_above():
+    """Returns for each crate of crates.txt the crates that stand on it, and itself."""
+    with open("crates.txt", encoding="utf-8") as file:
+        lines = [line.partition(":") for line in file if not line.startswith("#")]
+    above = {head.split()[0]: {head.split()[0]} for head, _, _ in lines if head.strip()}
+    uses = {head.split()[0]: below.split() for head, _, below in lines if head.strip()}
+    for _ in uses:
+        for name, below in uses.items():
+            for it in set(below) & set(above):
+                above[it] |= above[name]
+    return above
+
+
 def lines_of(sums, whole, elapsed):
     """Yields the lines of the table."""
-    yield f"{'crate':18}" + "".join(f"{it:>9}" for it in KINDS) + f"{'all':>9}"
-    order = sorted(sums, key=lambda it: -sum(sums[it].values()))
-    for crate in order:
-        row = [sums[crate][it] for it in KINDS]
-        yield f"{crate:18}" + "".join(f"{it:9.0f}" for it in row) + f"{sum(row):9.0f}"
+    above = crates_above()
+    yield f"{'crate':18}" + "".join(f"{it:>9}" for it in (*KINDS, "all", "again"))
+    used = {crate: sum(row.values()) for crate, row in sums.items()}
+    for crate in sorted(sums, key=lambda it: -used[it]):
+        row = [*(sums[crate][it] for it in KINDS), used[crate], sum(used.get(it, 0) for it in above.get(crate, ()))]
+        yield f"{crate:18}" + "".join(f"{it:9.0f}" for it in row)
     every = [sum(sums[crate][it] for crate in sums) for it in KINDS]
-    yield f"{'all':18}" + "".join(f"{it:9.0f}" for it in every) + f"{sum(every):9.0f}"
+    yield f"{'all':18}" + "".join(f"{it:9.0f}" for it in [*every, sum(every)])
     yield f"not seen {whole - sum(every):.0f}"
     yield f"{whole:.0f} processor seconds, {elapsed / 60:.1f} minutes"
 
