@@ -46,43 +46,54 @@ def words_of(asked, style):
     return words + (["--json"] if style == "json" else [])
 
 
-def has_listed(ran, lines, fault):
-    """Whether a run printed these lines, and behind them the line of this fault, if there is one."""
-    if fault is None:
-        return ran.returncode == 0 and ran.stdout == lines and not ran.stderr
-    line = f"fault {fault[0]}: {TEXTS[fault[0]].format(fault[1])}\n".encode()
-    return ran.returncode == 1 and ran.stdout == lines and ran.stderr == line
+def listing_difference(ran, lines, fault):
+    """What differs from these lines, and behind them the line of this fault, if there is one: what came, and what was wanted; or None."""
+    line = b"" if fault is None else f"fault {fault[0]}: {TEXTS[fault[0]].format(fault[1])}\n".encode()
+    if (ran.returncode, ran.stderr) != (0 if fault is None else 1, line):
+        return f"status {ran.returncode}, {ran.stderr!r}, wanted {line!r}"
+    if ran.stdout == lines:
+        return None
+    came, wanted = ran.stdout.splitlines() + [b"no line"], lines.splitlines() + [b"no line"]
+    at = next((at for at, (one, other) in enumerate(zip(came, wanted)) if one != other), min(len(came), len(wanted)) - 1)
+    return f"line {at + 1} is {came[at]!r}, wanted {wanted[at]!r}"
 
 
-def is_log_listed(path, style, **asked):
+def log_difference(path, style, **asked):
     lines, fault = lines_of_log(bytes_of(path), STYLES[style], **asked)
-    return has_listed(dump("log", path, *words_of(asked, style)), lines, fault)
+    return listing_difference(dump("log", path, *words_of(asked, style)), lines, fault)
 
 
-def is_store_listed(path, style, **asked):
+def store_difference(path, style, **asked):
     lines, fault = lines_of_store(bytes_of(path), STYLES[style], **asked)
-    return has_listed(dump("store", path, *words_of(asked, style)), lines, fault)
+    return listing_difference(dump("store", path, *words_of(asked, style)), lines, fault)
 
 
-def is_row_listed(folder, style):
-    """Whether the log of a row, and its stores where a recovery took them, are listed as they should be."""
+def row_differences(folder, style):
+    """How the lists of the log of a row, and of its stores where a recovery took them, differ from what they should be."""
     stores = [os.path.join(folder, name) for name in ("store", "out-store") if os.path.exists(os.path.join(folder, "out-store"))]
     logs = [os.path.join(folder, name) for name in ("log", "out-log") if os.path.exists(os.path.join(folder, name))]
-    return all(is_log_listed(log, style) for log in logs) and all(is_store_listed(store, style) for store in stores)
+    yield from (log_difference(log, style) for log in logs)
+    yield from (store_difference(store, style) for store in stores)
+
+
+def say_same(tally, what, differences):
+    """Says whether nothing differs, or what differs first."""
+    found = next((it for it in differences if it), None)
+    tally.say(what, found is None, found)
 
 
 def check_by_hand(tally, room):
     log, store = written(room, "log-by-hand", LOG), written(room, "store-by-hand", STORE)
-    tally.say("dump of a log, by hand", has_listed(dump("log", log), LOG_LINES, None))
-    tally.say("dump of a log as JSON, by hand", has_listed(dump("log", log, "--json"), LOG_OBJECTS, None))
-    tally.say("dump of a store, by hand", has_listed(dump("store", store), STORE_LINES, None))
+    say_same(tally, "dump of a log, by hand", [listing_difference(dump("log", log), LOG_LINES, None)])
+    say_same(tally, "dump of a log as JSON, by hand", [listing_difference(dump("log", log, "--json"), LOG_OBJECTS, None)])
+    say_same(tally, "dump of a store, by hand", [listing_difference(dump("store", store), STORE_LINES, None)])
 
 
 def check_rows(tally):
     for name in sorted(os.listdir(SMALL_ROWS)):
         folder = os.path.join(SMALL_ROWS, name)
         if os.path.exists(os.path.join(folder, "log")):
-            tally.say(f"dump of {name}", all(is_row_listed(folder, style) for style in STYLES))
+            say_same(tally, f"dump of {name}", (it for style in STYLES for it in row_differences(folder, style)))
 
 
 def check_large_rows(tally, room):
@@ -90,7 +101,7 @@ def check_large_rows(tally, room):
         name = archive.partition(".")[0]
         with tarfile.open(os.path.join(LARGE_ROWS, archive)) as files:
             files.extractall(room)
-        tally.say(f"dump of {name}", is_row_listed(os.path.join(room, name), "json"))
+        say_same(tally, f"dump of {name}", row_differences(os.path.join(room, name), "json"))
 
 
 def every_byte(room):
@@ -106,27 +117,32 @@ def every_byte(room):
 def check_options(tally, room):
     path = every_byte(room)
     for style in STYLES:
-        tally.say(f"dump of every byte, {style}", is_log_listed(path, style))
+        say_same(tally, f"dump of every byte, {style}", [log_difference(path, style)])
     log = os.path.join(SMALL_ROWS, "two-losers", "log")
     for asked in ({"from": 2}, {"to": 3}, {"from": 2, "to": 2}, {"from": 3, "to": 2}, {"transaction": 1}, {"transaction": 9}, {"page": 0}, {"page": 1},
                   {"from": 2, "transaction": 2, "page": 0}):
-        tally.say(f"dump of {asked}", all(is_log_listed(log, style, **asked) for style in STYLES))
+        say_same(tally, f"dump of {asked}", (log_difference(log, style, **asked) for style in STYLES))
     store = os.path.join(SMALL_ROWS, "ten-pages", "store")
-    tally.say("dump of one page", all(is_store_listed(store, style, page=page) for style in STYLES for page in (0, 9, 10)))
+    say_same(tally, "dump of one page", (store_difference(store, style, page=page) for style in STYLES for page in (0, 9, 10)))
+
+
+def log_damage(room):
+    whole = bytes_of(os.path.join(SMALL_ROWS, "two-losers", "log"))
+    for at in range(len(whole)):
+        yield log_difference(written(room, "damaged", whole[:at] + bytes([whole[at] ^ 0x80]) + whole[at + 1:]), "text")
+        yield log_difference(written(room, "cut", whole[:at]), "json")
+
+
+def store_damage(room):
+    store = bytes_of(os.path.join(SMALL_ROWS, "ten-pages", "out-store"))
+    for at in range(24, len(store), 101):
+        path = written(room, "damaged", store[:at] + bytes([store[at] ^ 0x01]) + store[at + 1:])
+        yield from (store_difference(path, style) for style in STYLES)
 
 
 def check_damage(tally, room):
-    whole = bytes_of(os.path.join(SMALL_ROWS, "two-losers", "log"))
-    right = True
-    for at in range(len(whole)):
-        path = written(room, "damaged", whole[:at] + bytes([whole[at] ^ 0x80]) + whole[at + 1:])
-        right = right and is_log_listed(path, "text") and is_log_listed(written(room, "cut", whole[:at]), "json")
-    tally.say("dump of a log with each byte changed, and cut there", right)
-    store, right = bytes_of(os.path.join(SMALL_ROWS, "ten-pages", "out-store")), True
-    for at in range(24, len(store), 101):
-        path = written(room, "damaged", store[:at] + bytes([store[at] ^ 0x01]) + store[at + 1:])
-        right = right and all(is_store_listed(path, style) for style in STYLES)
-    tally.say("dump of a store with bytes of its pages changed", right)
+    say_same(tally, "dump of a log with each byte changed, and cut there", log_damage(room))
+    say_same(tally, "dump of a store with bytes of its pages changed", store_damage(room))
     missing = os.path.join(room, "no-such-file")
     ran = dump("log", missing)
     tally.say("dump of no log", has_refused(ran, b"fault 2: reading the log failed\n"))

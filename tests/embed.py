@@ -142,8 +142,9 @@ def names_of_the_header():
 def check_header(tally, toolchain, archive, how):
     source = os.path.join(TOP, "tests/embed/header.c")
     program = toolchain.program("header", [source], archive, toolchain.plain_flags())
-    status = run([program]).returncode if program else "not built"
-    tally.say(f"every call of the header{how}", status == 0, f"the first check that fails: {status}")
+    ran = run([program]) if program else None
+    seen = ran.stdout.decode() or f"status {ran.returncode}" if ran else "not built"
+    tally.say(f"every call of the header{how}", ran and ran.returncode == 0, seen.strip())
 
 
 def check_refusals(tally, toolchain, archive, how):

@@ -1,16 +1,20 @@
 /* Every call of aries.h, and every field of its structs, on bytes that are worked by hand in docs/FORMATS.md and
  * docs/DEFINITIONS.md. Nothing compares the header with the proved source, so a wrong type in it is found here alone.
- * Needs no header of the C library. The status is 0, or the number of the first check that fails. */
+ * Needs no header of the C library. Prints the line and the text of each check that fails; the status is 1 if there is one. */
 #include "aries.h"
 
 int memcmp(const void *, const void *, size_t);
+int printf(const char *, ...);
 
-static int checks, first_failed;
+static int failed;
 
-static void need(int holds) {
-    checks++;
-    if (!holds && first_failed == 0) first_failed = checks;
+static void need_at(int holds, int line, const char *text) {
+    if (holds) return;
+    printf("line %d: %s\n", line, text);
+    failed = 1;
 }
+
+#define need(holds) need_at(holds, __LINE__, #holds)
 
 static int is_fault(struct aries_fault fault, uint32_t number, uint64_t place) {
     return fault.number == number && fault.place == place;
@@ -474,5 +478,5 @@ int main(void) {
     check_audits();
     check_journals();
     check_texts();
-    return first_failed < 255 ? first_failed : 255;
+    return failed;
 }
