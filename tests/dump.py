@@ -180,7 +180,7 @@ def check_growth(tally, refuser):
     right, count = True, 0
     for ran, is_refused in refuser.in_turn(lambda **how: dump("log", log, **how)):
         is_fault_1 = ran.returncode == 1 and ran.stderr == b"fault 1: no resource\n" and lines.startswith(ran.stdout)
-        right = right and (has_listed(ran, lines, None) or (is_refused and is_fault_1))
+        right = right and (listing_difference(ran, lines, None) is None or (is_refused and is_fault_1))
         count += is_refused
     tally.say(f"dump, {count} growths refused in turn", right and count > 0)
 
