@@ -1,12 +1,12 @@
 //! How transactions begin, and how one without a record leaves.
 
-ghost use Rattle.std.specs.Prelude.{◌≡◌, ◌≤◌, ◌+◌, List, false, is_some, true, IfOk, OnOk, OnErr, IfErr, length, take, ◌≢◌, ℕ, None};
+ghost use Rattle.std.specs.Prelude.{◌≡◌, ◌≤◌, ◌+◌, List, false, is_some, true, IfOk, OnOk, OnErr, IfErr, length, take, None};
 ghost use Rattle.log_laws.specs.Meaning.{BasePages, is_of, has};
 ghost use Rattle.journal.specs.declared.entries.PageEntry.{PageEntry};
 ghost use Rattle.journal.specs.declared.entries.PendingEntry.{PendingEntry};
 ghost use Rattle.journal.specs.Refusals.{BeginRefused, CancelRefused};
 ghost use Rattle.journal.specs.Runs.{Run, log_of};
-ghost use Rattle.journal.specs.Arrays.{kept_of, OwesLess};
+ghost use Rattle.journal.specs.Arrays.{kept_of, LeavesOthers, OwesLess};
 ghost use Rattle.journal.specs.State.{IsJournal};
 
 use crate::entries::{Head, TransactionEntry};
@@ -35,6 +35,13 @@ pub fn begin(head: &mut Head, transactions: &mut [TransactionEntry]) -> Result<u
         (pending : List PendingEntry) → IsJournal base run head.old transactions.old pages pending
         → is_some (kept_of (take head.new.transactions transactions.new)
         (take head.new.pending pending) tx) ≡ true) }
+    ensures others { IfOk result (λ tx. (base : BasePages) (run : Run) (pages : List PageEntry)
+        (pending : List PendingEntry) → IsJournal base run head.old transactions.old pages pending
+        → LeavesOthers tx (take head.old.transactions transactions.old)
+        (take head.old.pending pending)
+        (take head.new.transactions transactions.new) (take head.new.pending pending)) }
+    ensures number { IfOk result (λ tx. tx ≡ head.old.next) }
+    ensures next { IfOk result (λ tx. head.new.next ≡ tx + 1) }
     ensures fresh { IfOk result (λ tx. (base : BasePages) (run : Run) (pages : List PageEntry)
         (pending : List PendingEntry) → IsJournal base run head.old transactions.old pages pending
         → has (is_of tx) (log_of run) ≡ false) }
@@ -92,10 +99,9 @@ pub fn cancel(
         → has (is_of tx) (log_of run) ≡ false) }
     ensures others { OnOk result ((base : BasePages) (run : Run) (pages : List PageEntry)
         (pending : List PendingEntry) → IsJournal base run head.old transactions.old pages pending
-        → (other : ℕ) → other ≢ tx → kept_of (take head.new.transactions transactions.new)
-        (take head.new.pending pending) other
-        ≡ kept_of (take head.old.transactions transactions.old)
-        (take head.old.pending pending) other) }
+        → LeavesOthers tx (take head.old.transactions transactions.old)
+        (take head.old.pending pending)
+        (take head.new.transactions transactions.new) (take head.new.pending pending)) }
     ensures owes { OnOk result ((base : BasePages) (run : Run) (pages : List PageEntry)
         (pending : List PendingEntry) → IsJournal base run head.old transactions.old pages pending
         → OwesLess (take head.old.transactions transactions.old) (take head.old.pending pending)

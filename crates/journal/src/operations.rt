@@ -13,7 +13,7 @@ ghost use Rattle.journal.specs.declared.entries.PageEntry.{PageEntry};
 ghost use Rattle.journal.specs.Runs.{Run, appended, count_of, log_of};
 ghost use Rattle.journal.specs.Rollbacks.{newest_of, CanUndo};
 ghost use Rattle.journal.specs.PageStates.{PageState};
-ghost use Rattle.journal.specs.Arrays.{image_of, page_state_of, unless_0, kept_of, IsTable, OwesLess};
+ghost use Rattle.journal.specs.Arrays.{image_of, page_state_of, unless_0, kept_of, LeavesOthers, IsTable, OwesLess};
 ghost use Rattle.journal.specs.Writing.{IsWritten};
 ghost use Rattle.journal.specs.declared.framing.TheConstants.{LONGEST_CHANGE, LONGEST_UNDO};
 ghost use Rattle.journal.specs.Refusals.{IsNotRoom, StepRefused, RefusedFor, PrepareRefused, UpdateRefused, UndoRefused, EndRefused, CellMissing, CellRefused};
@@ -207,6 +207,11 @@ pub fn update(
         → IsJournal base run head.old transactions.old pages.old pending.old
         → IsWritten (update_by base run tx page slot (image_of after.now)) (head.old.last + 1)
         out.old out.new size) }
+    ensures others { OnOk result ((base : BasePages) (run : Run)
+        → IsJournal base run head.old transactions.old pages.old pending.old
+        → LeavesOthers tx (take head.old.transactions transactions.old)
+        (take head.old.pending pending.old)
+        (take head.new.transactions transactions.new) (take head.new.pending pending.new)) }
     ensures size { IfOk result (λ size. size ≤ length out.old) }
     ensures short { IfOk result (λ size. size ≤ LONGEST_CHANGE) }
     ensures enough { LONGEST_CHANGE ≤ length out.old → IfErr result IsNotRoom }
@@ -214,6 +219,7 @@ pub fn update(
     ensures updates { OnOk result (head.new.pending ≤ length pending.old) }
     ensures lsn { OnOk result (head.new.last ≡ head.old.last + 1) }
     ensures unforced { head.new.written ≡ head.old.written }
+    ensures next { head.new.next ≡ head.old.next }
     ensures head { OnErr result (head.new ≡ head.old) }
     ensures transactions { OnErr result (transactions.new ≡ transactions.old) }
     ensures pages { OnErr result (pages.new ≡ pages.old) }
@@ -277,6 +283,11 @@ pub fn undo(
         → (r : LogRecord) × IsUndo run tx r
         × IsJournal base (appended run r) head.new transactions.new pages.new pending.new
         × IsWritten r (head.old.last + 1) out.old out.new size) }
+    ensures others { OnOk result ((base : BasePages) (run : Run)
+        → IsJournal base run head.old transactions.old pages.old pending.old
+        → LeavesOthers tx (take head.old.transactions transactions.old)
+        (take head.old.pending pending.old)
+        (take head.new.transactions transactions.new) (take head.new.pending pending.new)) }
     ensures size { IfOk result (λ size. size ≤ length out.old) }
     ensures owes { OnOk result ((base : BasePages) (run : Run)
         → IsJournal base run head.old transactions.old pages.old pending.old
@@ -288,6 +299,7 @@ pub fn undo(
     ensures updates { head.new.pending ≡ head.old.pending }
     ensures lsn { OnOk result (head.new.last ≡ head.old.last + 1) }
     ensures unforced { head.new.written ≡ head.old.written }
+    ensures next { head.new.next ≡ head.old.next }
     ensures head { OnErr result (head.new ≡ head.old) }
     ensures transactions { OnErr result (transactions.new ≡ transactions.old) }
     ensures pages { OnErr result (pages.new ≡ pages.old) }
@@ -353,6 +365,12 @@ pub fn commit(
         (pending : List PendingEntry)
         → IsJournal base run head.old transactions.old pages pending
         → IsWritten (Commit (plain_by run tx)) (head.old.last + 1) out.old out.new size) }
+    ensures others { OnOk result ((base : BasePages) (run : Run) (pages : List PageEntry)
+        (pending : List PendingEntry)
+        → IsJournal base run head.old transactions.old pages pending
+        → LeavesOthers tx (take head.old.transactions transactions.old)
+        (take head.old.pending pending)
+        (take head.new.transactions transactions.new) (take head.new.pending pending)) }
     ensures size { IfOk result (λ size. size ≤ length out.old) }
     ensures owes { OnOk result ((base : BasePages) (run : Run) (pages : List PageEntry)
         (pending : List PendingEntry)
@@ -365,6 +383,7 @@ pub fn commit(
     ensures updates { head.new.pending ≡ head.old.pending }
     ensures lsn { OnOk result (head.new.last ≡ head.old.last + 1) }
     ensures unforced { head.new.written ≡ head.old.written }
+    ensures next { head.new.next ≡ head.old.next }
     ensures head { OnErr result (head.new ≡ head.old) }
     ensures transactions { OnErr result (transactions.new ≡ transactions.old) }
     ensures out { OnErr result (out.new ≡ out.old) }
@@ -409,6 +428,12 @@ pub fn abort(
         (pending : List PendingEntry)
         → IsJournal base run head.old transactions.old pages pending
         → IsWritten (Abort (plain_by run tx)) (head.old.last + 1) out.old out.new size) }
+    ensures others { OnOk result ((base : BasePages) (run : Run) (pages : List PageEntry)
+        (pending : List PendingEntry)
+        → IsJournal base run head.old transactions.old pages pending
+        → LeavesOthers tx (take head.old.transactions transactions.old)
+        (take head.old.pending pending)
+        (take head.new.transactions transactions.new) (take head.new.pending pending)) }
     ensures size { IfOk result (λ size. size ≤ length out.old) }
     ensures owes { OnOk result ((base : BasePages) (run : Run) (pages : List PageEntry)
         (pending : List PendingEntry)
@@ -421,6 +446,7 @@ pub fn abort(
     ensures updates { head.new.pending ≡ head.old.pending }
     ensures lsn { OnOk result (head.new.last ≡ head.old.last + 1) }
     ensures unforced { head.new.written ≡ head.old.written }
+    ensures next { head.new.next ≡ head.old.next }
     ensures head { OnErr result (head.new ≡ head.old) }
     ensures transactions { OnErr result (transactions.new ≡ transactions.old) }
     ensures out { OnErr result (out.new ≡ out.old) }
@@ -463,6 +489,11 @@ pub fn end(
     ensures written { IfOk result (λ size. (base : BasePages) (run : Run) (pages : List PageEntry)
         → IsJournal base run head.old transactions.old pages pending.now
         → IsWritten (End (plain_by run tx)) (head.old.last + 1) out.old out.new size) }
+    ensures others { OnOk result ((base : BasePages) (run : Run) (pages : List PageEntry)
+        → IsJournal base run head.old transactions.old pages pending.now
+        → LeavesOthers tx (take head.old.transactions transactions.old)
+        (take head.old.pending pending.now)
+        (take head.new.transactions transactions.new) (take head.new.pending pending.now)) }
     ensures size { IfOk result (λ size. size ≤ length out.old) }
     ensures owes { OnOk result ((base : BasePages) (run : Run) (pages : List PageEntry)
         → IsJournal base run head.old transactions.old pages pending.now
@@ -474,6 +505,7 @@ pub fn end(
     ensures updates { head.new.pending ≡ head.old.pending }
     ensures lsn { OnOk result (head.new.last ≡ head.old.last + 1) }
     ensures unforced { head.new.written ≡ head.old.written }
+    ensures next { head.new.next ≡ head.old.next }
     ensures head { OnErr result (head.new ≡ head.old) }
     ensures transactions { OnErr result (transactions.new ≡ transactions.old) }
     ensures out { OnErr result (out.new ≡ out.old) }
@@ -524,6 +556,12 @@ pub fn prepare(
         (pending : List PendingEntry)
         → IsJournal base run head.old transactions.old pages pending
         → IsWritten (Prepare (plain_by run tx)) (head.old.last + 1) out.old out.new size) }
+    ensures others { OnOk result ((base : BasePages) (run : Run) (pages : List PageEntry)
+        (pending : List PendingEntry)
+        → IsJournal base run head.old transactions.old pages pending
+        → LeavesOthers tx (take head.old.transactions transactions.old)
+        (take head.old.pending pending)
+        (take head.new.transactions transactions.new) (take head.new.pending pending)) }
     ensures size { IfOk result (λ size. size ≤ length out.old) }
     ensures short { IfOk result (λ size. size ≡ PLAIN_FRAME) }
     ensures enough { PLAIN_FRAME ≤ length out.old → IfErr result IsNotRoom }
@@ -531,6 +569,7 @@ pub fn prepare(
     ensures updates { head.new.pending ≡ head.old.pending }
     ensures lsn { OnOk result (head.new.last ≡ head.old.last + 1) }
     ensures unforced { head.new.written ≡ head.old.written }
+    ensures next { head.new.next ≡ head.old.next }
     ensures head { OnErr result (head.new ≡ head.old) }
     ensures transactions { OnErr result (transactions.new ≡ transactions.old) }
     ensures out { OnErr result (out.new ≡ out.old) }

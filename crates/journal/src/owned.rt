@@ -1,8 +1,8 @@
 //! `Journal`: a journal that owns its arrays, and keeps the frames until they are taken.
 
-ghost use Rattle.std.specs.Prelude.{◌≡◌, ◌≤◌, ◌<◌, ◌+◌, ◌*◌, ◌⊎◌, ℕ, [], ◌++◌, max, length, take, true, false, OnOk, OnErr, IfOk, IfErr, IfSome, Option, None, IsOkUnless};
+ghost use Rattle.std.specs.Prelude.{◌≡◌, ◌≤◌, ◌<◌, ◌+◌, ◌*◌, ◌⊎◌, ℕ, [], ◌++◌, max, length, take, true, false, is_some, slice_index_or, All, OnOk, OnErr, IfOk, IfErr, IfSome, Option, None, IsOkUnless};
 ghost use Rattle.page.specs.declared.profile.TheConstants.{TRANSACTIONS};
-ghost use Rattle.log_laws.specs.Records.{Commit, Abort, End, Prepare, last_lsn, history};
+ghost use Rattle.log_laws.specs.Records.{Commit, Abort, End, Prepare, lsn_before, last_lsn, history};
 ghost use Rattle.log_laws.specs.Meaning.{BasePages, is_of, has, pending};
 ghost use Rattle.log_laws.specs.Pages.{base_pages};
 ghost use Rattle.journal.specs.declared.refusal.Refusal.TheVariants.{NoResource, NoSuchLsn};
@@ -10,15 +10,16 @@ ghost use Rattle.journal.specs.declared.framing.TheConstants.{LONGEST_UNDO};
 ghost use Rattle.journal.specs.declared.table.Need.TheVariants.{NotAborting, NotPrepared};
 ghost use Rattle.journal.specs.declared.entries.TransactionEntry.{TransactionEntry};
 ghost use Rattle.journal.specs.declared.entries.PendingEntry.{PendingEntry};
-ghost use Rattle.journal.specs.Arrays.{kept_of, IsTable, AllLive};
+ghost use Rattle.journal.specs.declared.entries.PageEntry.{PageEntry};
+ghost use Rattle.journal.specs.Arrays.{kept_of, IsNoted, IsTable, AllLive};
 ghost use Rattle.journal.specs.Runs.{Run, reported, opened, empty_log, MayOpen, count_of, log_of};
 ghost use Rattle.journal.specs.State.{update_by, plain_by};
-ghost use Rattle.journal.specs.PageStates.{IsCurrent};
+ghost use Rattle.journal.specs.PageStates.{IsCurrent, IsUpToDate};
 ghost use Rattle.journal.specs.Rollbacks.{newest_of, CanUndo};
 ghost use Rattle.journal.specs.Opened.{OwnNewRefused, OwnOpenRefused, OpenRefusedFor};
 ghost use Rattle.journal.specs.Holders.{IsHolder};
 ghost use Rattle.journal.specs.Refusals.{CellMissing, CancelRefused, ReportRefused, PageToWriteRefused, StepRefused, OwnBeginRefused, OwnUpdateRefused, OwnPrepareRefused, OwnUndoRefused, OwnEndRefused, OwnCheckpointRefused};
-ghost use Rattle.journal.specs.JournalState.{JournalState, Keeps, Appends, StaysKept, Undoes, TakesCheckpoint, RollsBackTo, RollsBackAll};
+ghost use Rattle.journal.specs.JournalState.{JournalState, Keeps, Appends, StaysKept, LeavesRest, OthersStay, Undoes, TakesCheckpoint, RollsBackTo, RollsBackAll};
 
 use crate::checkpoints::LONGEST_CHECKPOINT;
 use crate::entries::{Head, PageEntry, PendingEntry, TransactionEntry};
@@ -200,9 +201,8 @@ impl Journal {
     /// after it.
     pub fn frames_taken(&mut self)
         ensures kept { StaysKept self.old self.new }
-        ensures none { self.new.frames ≡ [] }
-        ensures taken { self.new.taken ≡ self.old.head.last }
-        ensures head { self.new.head ≡ self.old.head }
+        ensures taken { self.new
+            ≡ record self.old { frames = []; taken = self.old.head.last } }
     {
         self.taken = self.head.last;
         self.length = 0;
@@ -214,7 +214,10 @@ impl Journal {
     /// taken.
     pub fn log_written(&mut self, lsn: u64) -> Result<(), Refusal>
         ensures ok { OnOk result (StaysKept self.old self.new) }
-        ensures written { OnOk result (self.new.head.written ≡ max self.old.head.written lsn) }
+        ensures known { OnOk result (lsn ≤ self.old.taken) }
+        ensures written { OnOk result (self.new ≡ record self.old {
+          head = record self.old.head { written = max self.old.head.written lsn };
+        }) }
         ensures kept { OnErr result (self.new ≡ self.old) }
         ensures err { IsOkUnless result NoSuchLsn }
         ensures refused { OnErr result (self.old.taken < lsn) }
@@ -269,8 +272,11 @@ impl Journal {
     pub fn page_written(&mut self, number: u32, page_lsn: u64) -> Result<(), Refusal>
         ensures ok { OnOk result ((base : BasePages) (run : Run) → Keeps base run self.old
             → Keeps base (reported run number page_lsn) self.new) }
-        ensures frames { self.new.frames ≡ self.old.frames }
-        ensures head { self.new.head ≡ self.old.head }
+        ensures there { OnOk result (number < length self.old.pages) }
+        ensures known { OnOk result ((d : PageEntry)
+            → page_lsn ≤ (slice_index_or self.old.pages number d).page.lsn) }
+        ensures noted { OnOk result (IsNoted self.old.pages self.new.pages number page_lsn) }
+        ensures rest { self.new ≡ record self.old { pages = self.new.pages } }
         ensures kept { OnErr result (self.new ≡ self.old) }
         ensures refused { IfErr result (λ e. (base : BasePages) (run : Run)
             → Keeps base run self.old → ReportRefused base run number page_lsn e) }
@@ -288,6 +294,12 @@ impl Journal {
     pub fn cancel(&mut self, tx: u32) -> Result<(), Refusal>
         ensures ok { OnOk result (StaysKept self.old self.new) }
         ensures frames { self.new.frames ≡ self.old.frames }
+        ensures gone { OnOk result ((base : BasePages) (run : Run) → Keeps base run self.old
+            → kept_of self.new.transactions self.new.pending tx ≡ None) }
+        ensures unlogged { OnOk result ((base : BasePages) (run : Run) → Keeps base run self.old
+            → has (is_of tx) (log_of run) ≡ false) }
+        ensures others { OnOk result (OthersStay self.old self.new tx) }
+        ensures rest { LeavesRest self.old self.new }
         ensures kept { OnErr result (self.new ≡ self.old) }
         ensures refused { IfErr result (λ e. (base : BasePages) (run : Run)
             → Keeps base run self.old
@@ -308,6 +320,8 @@ impl Journal {
     pub fn new(alloc: Global, begins: LogStart, store: &Store) -> Result<Journal, Refusal>
         ensures ok { IfOk result (Keeps (base_pages store.now.pages)
             (opened (empty_log begins) store.now)) }
+        ensures written { IfOk result (λ j. j.head.written ≡ lsn_before begins) }
+        ensures unused { IfOk result (λ j. j.transactions ≡ []) }
         ensures none { IfOk result (λ j. j.frames ≡ []) }
         ensures no_master { OnOk result (store.now.master ≡ 0) }
         ensures refused { IfErr result (OwnNewRefused begins store.now) }
@@ -336,6 +350,8 @@ impl Journal {
         requires { 0 < room }
         ensures ok { IfOk result (λ j. (base : BasePages) → MayOpen base log.now store.now
             → Keeps base (opened log.now store.now) j) }
+        ensures written { IfOk result (λ j. j.head.written ≡ last_lsn (history log.now)) }
+        ensures current { OnOk result (All (IsUpToDate (history log.now)) store.now.pages) }
         ensures none { IfOk result (λ j. j.frames ≡ []) }
         ensures refused { IfErr result (λ e. (base : BasePages) → MayOpen base log.now store.now
             → OwnOpenRefused log.now store.now room e) }
@@ -375,6 +391,8 @@ impl Journal {
     pub fn open(alloc: Global, log: &Log, store: &Store) -> Result<Journal, Refusal>
         ensures ok { IfOk result (λ j. (base : BasePages) → MayOpen base log.now store.now
             → Keeps base (opened log.now store.now) j) }
+        ensures written { IfOk result (λ j. j.head.written ≡ last_lsn (history log.now)) }
+        ensures current { OnOk result (All (IsUpToDate (history log.now)) store.now.pages) }
         ensures none { IfOk result (λ j. j.frames ≡ []) }
         ensures refused { IfErr result (λ e. (base : BasePages) → MayOpen base log.now store.now
             → OpenRefusedFor log.now store.now e) }
@@ -400,9 +418,16 @@ impl Journal {
     /// - NoResource: memory was refused.
     pub fn begin(&mut self) -> Result<u32, Refusal>
         ensures ok { OnOk result (StaysKept self.old self.new) }
+        ensures begun { IfOk result (λ tx. (base : BasePages) (run : Run) → Keeps base run self.old
+            → is_some (kept_of self.new.transactions self.new.pending tx) ≡ true) }
+        ensures others { IfOk result (λ tx. OthersStay self.old self.new tx) }
+        ensures number { IfOk result (λ tx. tx ≡ self.old.head.next) }
+        ensures next { IfOk result (λ tx. self.new.head.next ≡ tx + 1) }
         ensures fresh { IfOk result (λ tx. (base : BasePages) (run : Run) → Keeps base run self.old
             → has (is_of tx) (log_of run) ≡ false) }
         ensures frames { self.new.frames ≡ self.old.frames }
+        ensures unforced { self.new.head.written ≡ self.old.head.written }
+        ensures taken { self.new.taken ≡ self.old.taken }
         ensures kept { OnErr result (self.new ≡ self.old) }
         ensures refused { IfErr result (λ e. (base : BasePages) (run : Run)
             → Keeps base run self.old → OwnBeginRefused self.old.head e) }
@@ -433,6 +458,8 @@ impl Journal {
         ensures ok { OnOk result (Appends self.old self.new
             (λ base run. update_by base run tx page slot after)) }
         ensures lsn { IfOk result (λ lsn. lsn ≡ self.old.head.last + 1) }
+        ensures rest { LeavesRest self.old self.new }
+        ensures others { OnOk result (OthersStay self.old self.new tx) }
         ensures kept { OnErr result (self.new ≡ self.old) }
         ensures refused { IfErr result (λ e. (base : BasePages) (run : Run)
             → Keeps base run self.old → OwnUpdateRefused run tx page slot self.old.head e) }
@@ -474,6 +501,8 @@ impl Journal {
     pub fn undo_last(&mut self, tx: u32) -> Result<u64, Refusal>
         ensures ok { OnOk result (Undoes self.old self.new tx) }
         ensures lsn { IfOk result (λ lsn. lsn ≡ self.old.head.last + 1) }
+        ensures rest { LeavesRest self.old self.new }
+        ensures others { OnOk result (OthersStay self.old self.new tx) }
         ensures kept { OnErr result (self.new ≡ self.old) }
         ensures refused { IfErr result (λ e. (base : BasePages) (run : Run)
             → Keeps base run self.old → OwnUndoRefused run tx e) }
@@ -514,6 +543,8 @@ impl Journal {
     /// - Forbidden: the transaction is prepared.
     pub fn roll_back_to(&mut self, tx: u32, savepoint: u64) -> Result<(), Refusal>
         ensures ok { OnOk result (RollsBackTo self.old self.new tx savepoint) }
+        ensures rest { LeavesRest self.old self.new }
+        ensures others { OnOk result (OthersStay self.old self.new tx) }
         ensures kept { OnErr result ((base : BasePages) (run : Run) → Keeps base run self.old
             → self.new ≡ self.old) }
         ensures refused { IfErr result (λ e. (base : BasePages) (run : Run)
@@ -540,6 +571,8 @@ impl Journal {
     /// - Forbidden: the transaction is prepared: it has to commit or to abort first.
     pub fn roll_back(&mut self, tx: u32) -> Result<u64, Refusal>
         ensures ok { OnOk result (RollsBackAll self.old self.new tx) }
+        ensures rest { LeavesRest self.old self.new }
+        ensures others { OnOk result (OthersStay self.old self.new tx) }
         ensures kept { OnErr result ((base : BasePages) (run : Run) → Keeps base run self.old
             → self.new ≡ self.old) }
         ensures refused { IfErr result (λ e. (base : BasePages) (run : Run)
@@ -563,6 +596,8 @@ impl Journal {
         ensures ok { OnOk result (Appends self.old self.new
             (λ base run. Commit (plain_by run tx))) }
         ensures lsn { IfOk result (λ lsn. lsn ≡ self.old.head.last + 1) }
+        ensures rest { LeavesRest self.old self.new }
+        ensures others { OnOk result (OthersStay self.old self.new tx) }
         ensures kept { OnErr result (self.new ≡ self.old) }
         ensures refused { IfErr result (λ e. (base : BasePages) (run : Run)
             → Keeps base run self.old → StepRefused NotAborting run tx e) }
@@ -588,6 +623,8 @@ impl Journal {
     pub fn abort(&mut self, tx: u32) -> Result<u64, Refusal>
         ensures ok { OnOk result (Appends self.old self.new (λ base run. Abort (plain_by run tx))) }
         ensures lsn { IfOk result (λ lsn. lsn ≡ self.old.head.last + 1) }
+        ensures rest { LeavesRest self.old self.new }
+        ensures others { OnOk result (OthersStay self.old self.new tx) }
         ensures kept { OnErr result (self.new ≡ self.old) }
         ensures refused { IfErr result (λ e. (base : BasePages) (run : Run)
             → Keeps base run self.old → StepRefused NotAborting run tx e) }
@@ -613,6 +650,8 @@ impl Journal {
     pub fn end(&mut self, tx: u32) -> Result<u64, Refusal>
         ensures ok { OnOk result (Appends self.old self.new (λ base run. End (plain_by run tx))) }
         ensures lsn { IfOk result (λ lsn. lsn ≡ self.old.head.last + 1) }
+        ensures rest { LeavesRest self.old self.new }
+        ensures others { OnOk result (OthersStay self.old self.new tx) }
         ensures kept { OnErr result (self.new ≡ self.old) }
         ensures refused { IfErr result (λ e. (base : BasePages) (run : Run)
             → Keeps base run self.old → OwnEndRefused run tx e) }
@@ -642,6 +681,8 @@ impl Journal {
         ensures ok { OnOk result (Appends self.old self.new
             (λ base run. Prepare (plain_by run tx))) }
         ensures lsn { IfOk result (λ lsn. lsn ≡ self.old.head.last + 1) }
+        ensures rest { LeavesRest self.old self.new }
+        ensures others { OnOk result (OthersStay self.old self.new tx) }
         ensures kept { OnErr result (self.new ≡ self.old) }
         ensures refused { IfErr result (λ e. (base : BasePages) (run : Run)
             → Keeps base run self.old → OwnPrepareRefused run tx self.old.head e) }
@@ -674,6 +715,10 @@ impl Journal {
         ensures ok { OnOk result (TakesCheckpoint self.old self.new) }
         ensures begin { IfOk result (λ lsns. lsns.0 ≡ self.old.head.last + 1) }
         ensures end { IfOk result (λ lsns. lsns.1 ≡ self.old.head.last + 2) }
+        ensures rest { LeavesRest self.old self.new }
+        ensures transactions { self.new.transactions ≡ self.old.transactions }
+        ensures pending { self.new.pending ≡ self.old.pending }
+        ensures pages { self.new.pages ≡ self.old.pages }
         ensures kept { OnErr result (self.new ≡ self.old) }
         ensures refused { IfErr result (λ e. (base : BasePages) (run : Run)
             → Keeps base run self.old → OwnCheckpointRefused self.old.head e) }
