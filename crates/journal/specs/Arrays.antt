@@ -106,6 +106,11 @@ pub record AreArrays (head : Head) (ts : List TransactionEntry) (ps : List Pendi
 abbrev pub bound_of : TransactionEntry → ℕ → ℕ
 bound_of e count = if e.undo_next == 0 then 0 else min e.below count
 
+-- the page of this number is there, and its PageLSN is this LSN or a larger one
+pub record Reaches (pages : List PageEntry) (number lsn : ℕ) : Type 0 where
+  pub there : number < length pages
+  pub low : (d : PageEntry) → lsn ≤ (slice_index_or pages number d).page.lsn
+
 -- A REPORT that the image of the page of this number with this PageLSN is on the disk was noted, and the other pages are as they were.
 abbrev pub IsNoted : (before after : List PageEntry) → (number lsn : ℕ) → Type 0
 IsNoted before after number lsn =

@@ -1,7 +1,7 @@
 -- What a journal keeps, against its run (own).
-use Rattle.std.specs.Prelude.{⊤, ◌≡◌, ◌<◌, ◌≤◌, ◌-◌, ◌+◌, ◌*◌, ◌^◌, ℕ, List, [], ◌∷◌, ◌++◌, map, drop}
+use Rattle.std.specs.Prelude.{⊤, true, false, max, is_some, None, ◌≡◌, ◌<◌, ◌≤◌, ◌-◌, ◌+◌, ◌*◌, ◌^◌, ℕ, List, [], ◌∷◌, ◌++◌, map, drop}
 use Rattle.log_laws.specs.Records.{LogRecord, End, LogContent, TableEntry, CheckpointBegin, lsn_before, up_to, history, last_lsn}
-use Rattle.log_laws.specs.Meaning.{BasePages, pending}
+use Rattle.log_laws.specs.Meaning.{BasePages, is_of, has, pending}
 use Rattle.wal.specs.Reads.{spellings, log_text}
 use Rattle.journal.specs.declared.entries.Head.{Head}
 use Rattle.journal.specs.declared.entries.TransactionEntry.{TransactionEntry}
@@ -58,6 +58,23 @@ pub record LeavesRest (before after : JournalState) : Type 0 where
 -- what is kept of each transaction but this one is as it was
 abbrev pub OthersStay : (before after : JournalState) → (tx : ℕ) → Type 0
 OthersStay before after tx = (base : BasePages) (run : Run) → Keeps base run before → LeavesOthers tx before.transactions before.pending after.transactions after.pending
+
+-- BEGIN AND CANCEL
+-- a transaction of this number has begun
+abbrev pub HasBegun : (before after : JournalState) → (tx : ℕ) → Type 0
+HasBegun before after tx = (base : BasePages) (run : Run) → Keeps base run before → is_some (kept_of after.transactions after.pending tx) ≡ true
+
+-- a transaction of this number is not kept any more
+abbrev pub IsGone : (before after : JournalState) → (tx : ℕ) → Type 0
+IsGone before after tx = (base : BasePages) (run : Run) → Keeps base run before → kept_of after.transactions after.pending tx ≡ None
+
+-- no record of the log has this number
+abbrev pub HasNoRecord : JournalState → (tx : ℕ) → Type 0
+HasNoRecord j tx = (base : BasePages) (run : Run) → Keeps base run j → has (is_of tx) (log_of run) ≡ false
+
+-- THE LOG is known to be on the disk up to this LSN too, and all else is as it was.
+abbrev pub with_written : (lsn : ℕ) → JournalState → JournalState
+with_written lsn j = record j { head = record j.head { written = max j.head.written lsn } }
 
 -- UNDO. The newest pending update of the transaction was undone by one CLR.
 abbrev pub Undoes : (before after : JournalState) → (tx : ℕ) → Type 0

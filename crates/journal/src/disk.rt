@@ -1,6 +1,6 @@
 //! What an engine reports about the disk, and which pages it may write.
 
-ghost use Rattle.std.specs.Prelude.{◌≡◌, ◌≤◌, ◌<◌, max, List, length, slice_index_or, OnOk, OnErr, IfOk, IfErr};
+ghost use Rattle.std.specs.Prelude.{◌≡◌, ◌≤◌, ◌<◌, max, List, OnOk, OnErr, IfOk, IfErr};
 ghost use Rattle.log_laws.specs.Meaning.{BasePages, last_on};
 ghost use Rattle.journal.specs.declared.entries.Head.{Head};
 ghost use Rattle.journal.specs.declared.entries.TransactionEntry.{TransactionEntry};
@@ -8,7 +8,7 @@ ghost use Rattle.journal.specs.declared.entries.PageEntry.{PageEntry};
 ghost use Rattle.journal.specs.declared.entries.PendingEntry.{PendingEntry};
 ghost use Rattle.journal.specs.Refusals.{ReportRefused, LogWrittenRefused, PageToWriteRefused};
 ghost use Rattle.journal.specs.Runs.{Run, reported, count_of, log_of};
-ghost use Rattle.journal.specs.Arrays.{IsNoted};
+ghost use Rattle.journal.specs.Arrays.{Reaches, IsNoted};
 ghost use Rattle.journal.specs.State.{IsJournal};
 
 use crate::entries::{Head, PageEntry};
@@ -67,9 +67,7 @@ pub fn page_written(pages: &mut [PageEntry], number: u32, lsn: u64) -> Result<()
         (ts : List TransactionEntry) (ps : List PendingEntry)
         → IsJournal base run head ts pages.old ps
         → IsJournal base (reported run number lsn) head ts pages.new ps) }
-    ensures there { OnOk result (number < length pages.old) }
-    ensures known { OnOk result ((d : PageEntry)
-        → lsn ≤ (slice_index_or pages.old number d).page.lsn) }
+    ensures known { OnOk result (Reaches pages.old number lsn) }
     ensures noted { OnOk result (IsNoted pages.old pages.new number lsn) }
     ensures err { OnErr result (pages.new ≡ pages.old) }
     ensures refused { IfErr result (λ e. (base : BasePages) (run : Run) (head : Head)

@@ -1,4 +1,5 @@
-//! The operations of transactions that have begun.
+//! The operations of transactions that have begun. Each changes its own transaction alone. It leaves
+//! the LSN up to which the log is known to be on the disk, and the number of the next transaction.
 
 ghost use Rattle.std.specs.Prelude.{◌≡◌, ◌≢◌, ◌<◌, ◌≤◌, ◌+◌, ◌*◌, ◌^◌, ℕ, true, false, is_some, List, None, IfSome, IfOk, OnOk, OnErr, IfErr, IsOkUnless, length, slice_index_or, map, take};
 ghost use Rattle.page.specs.declared.profile.TheConstants.{SLOTS};
@@ -19,7 +20,7 @@ ghost use Rattle.journal.specs.declared.framing.TheConstants.{LONGEST_CHANGE, LO
 ghost use Rattle.journal.specs.Refusals.{IsNotRoom, StepRefused, RefusedFor, PrepareRefused, UpdateRefused, UndoRefused, EndRefused, CellMissing, CellRefused};
 ghost use Rattle.journal.specs.Transactions.{IsFreeFor};
 ghost use Rattle.journal.specs.Holders.{IsHolder};
-ghost use Rattle.journal.specs.State.{IsJournal, update_by, IsUndo, plain_by};
+ghost use Rattle.journal.specs.State.{IsJournal, OthersStay, update_by, IsUndo, plain_by};
 
 use crate::entries::{Head, PageEntry, PendingEntry, TransactionEntry};
 use crate::framing::{compensation_size, put_compensation, put_plain, put_update, update_size};
@@ -365,12 +366,7 @@ pub fn commit(
         (pending : List PendingEntry)
         → IsJournal base run head.old transactions.old pages pending
         → IsWritten (Commit (plain_by run tx)) (head.old.last + 1) out.old out.new size) }
-    ensures others { OnOk result ((base : BasePages) (run : Run) (pages : List PageEntry)
-        (pending : List PendingEntry)
-        → IsJournal base run head.old transactions.old pages pending
-        → LeavesOthers tx (take head.old.transactions transactions.old)
-        (take head.old.pending pending)
-        (take head.new.transactions transactions.new) (take head.new.pending pending)) }
+    ensures others { OnOk result (OthersStay head.old transactions.old head.new transactions.new tx) }
     ensures size { IfOk result (λ size. size ≤ length out.old) }
     ensures owes { OnOk result ((base : BasePages) (run : Run) (pages : List PageEntry)
         (pending : List PendingEntry)
@@ -428,12 +424,7 @@ pub fn abort(
         (pending : List PendingEntry)
         → IsJournal base run head.old transactions.old pages pending
         → IsWritten (Abort (plain_by run tx)) (head.old.last + 1) out.old out.new size) }
-    ensures others { OnOk result ((base : BasePages) (run : Run) (pages : List PageEntry)
-        (pending : List PendingEntry)
-        → IsJournal base run head.old transactions.old pages pending
-        → LeavesOthers tx (take head.old.transactions transactions.old)
-        (take head.old.pending pending)
-        (take head.new.transactions transactions.new) (take head.new.pending pending)) }
+    ensures others { OnOk result (OthersStay head.old transactions.old head.new transactions.new tx) }
     ensures size { IfOk result (λ size. size ≤ length out.old) }
     ensures owes { OnOk result ((base : BasePages) (run : Run) (pages : List PageEntry)
         (pending : List PendingEntry)
@@ -489,11 +480,7 @@ pub fn end(
     ensures written { IfOk result (λ size. (base : BasePages) (run : Run) (pages : List PageEntry)
         → IsJournal base run head.old transactions.old pages pending.now
         → IsWritten (End (plain_by run tx)) (head.old.last + 1) out.old out.new size) }
-    ensures others { OnOk result ((base : BasePages) (run : Run) (pages : List PageEntry)
-        → IsJournal base run head.old transactions.old pages pending.now
-        → LeavesOthers tx (take head.old.transactions transactions.old)
-        (take head.old.pending pending.now)
-        (take head.new.transactions transactions.new) (take head.new.pending pending.now)) }
+    ensures others { OnOk result (OthersStay head.old transactions.old head.new transactions.new tx) }
     ensures size { IfOk result (λ size. size ≤ length out.old) }
     ensures owes { OnOk result ((base : BasePages) (run : Run) (pages : List PageEntry)
         → IsJournal base run head.old transactions.old pages pending.now
@@ -556,12 +543,7 @@ pub fn prepare(
         (pending : List PendingEntry)
         → IsJournal base run head.old transactions.old pages pending
         → IsWritten (Prepare (plain_by run tx)) (head.old.last + 1) out.old out.new size) }
-    ensures others { OnOk result ((base : BasePages) (run : Run) (pages : List PageEntry)
-        (pending : List PendingEntry)
-        → IsJournal base run head.old transactions.old pages pending
-        → LeavesOthers tx (take head.old.transactions transactions.old)
-        (take head.old.pending pending)
-        (take head.new.transactions transactions.new) (take head.new.pending pending)) }
+    ensures others { OnOk result (OthersStay head.old transactions.old head.new transactions.new tx) }
     ensures size { IfOk result (λ size. size ≤ length out.old) }
     ensures short { IfOk result (λ size. size ≡ PLAIN_FRAME) }
     ensures enough { PLAIN_FRAME ≤ length out.old → IfErr result IsNotRoom }

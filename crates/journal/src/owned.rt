@@ -1,17 +1,16 @@
 //! `Journal`: a journal that owns its arrays, and keeps the frames until they are taken.
 
-ghost use Rattle.std.specs.Prelude.{◌≡◌, ◌≤◌, ◌<◌, ◌+◌, ◌*◌, ◌⊎◌, ℕ, [], ◌++◌, max, length, take, true, false, is_some, slice_index_or, All, OnOk, OnErr, IfOk, IfErr, IfSome, Option, None, IsOkUnless};
+ghost use Rattle.std.specs.Prelude.{◌≡◌, ◌≤◌, ◌<◌, ◌+◌, ◌*◌, ◌⊎◌, ℕ, [], ◌++◌, length, take, true, false, All, OnOk, OnErr, IfOk, IfErr, IfSome, Option, None, IsOkUnless};
 ghost use Rattle.page.specs.declared.profile.TheConstants.{TRANSACTIONS};
 ghost use Rattle.log_laws.specs.Records.{Commit, Abort, End, Prepare, lsn_before, last_lsn, history};
-ghost use Rattle.log_laws.specs.Meaning.{BasePages, is_of, has, pending};
+ghost use Rattle.log_laws.specs.Meaning.{BasePages, pending};
 ghost use Rattle.log_laws.specs.Pages.{base_pages};
 ghost use Rattle.journal.specs.declared.refusal.Refusal.TheVariants.{NoResource, NoSuchLsn};
 ghost use Rattle.journal.specs.declared.framing.TheConstants.{LONGEST_UNDO};
 ghost use Rattle.journal.specs.declared.table.Need.TheVariants.{NotAborting, NotPrepared};
 ghost use Rattle.journal.specs.declared.entries.TransactionEntry.{TransactionEntry};
 ghost use Rattle.journal.specs.declared.entries.PendingEntry.{PendingEntry};
-ghost use Rattle.journal.specs.declared.entries.PageEntry.{PageEntry};
-ghost use Rattle.journal.specs.Arrays.{kept_of, IsNoted, IsTable, AllLive};
+ghost use Rattle.journal.specs.Arrays.{kept_of, Reaches, IsNoted, IsTable, AllLive};
 ghost use Rattle.journal.specs.Runs.{Run, reported, opened, empty_log, MayOpen, count_of, log_of};
 ghost use Rattle.journal.specs.State.{update_by, plain_by};
 ghost use Rattle.journal.specs.PageStates.{IsCurrent, IsUpToDate};
@@ -19,7 +18,7 @@ ghost use Rattle.journal.specs.Rollbacks.{newest_of, CanUndo};
 ghost use Rattle.journal.specs.Opened.{OwnNewRefused, OwnOpenRefused, OpenRefusedFor};
 ghost use Rattle.journal.specs.Holders.{IsHolder};
 ghost use Rattle.journal.specs.Refusals.{CellMissing, CancelRefused, ReportRefused, PageToWriteRefused, StepRefused, OwnBeginRefused, OwnUpdateRefused, OwnPrepareRefused, OwnUndoRefused, OwnEndRefused, OwnCheckpointRefused};
-ghost use Rattle.journal.specs.JournalState.{JournalState, Keeps, Appends, StaysKept, LeavesRest, OthersStay, Undoes, TakesCheckpoint, RollsBackTo, RollsBackAll};
+ghost use Rattle.journal.specs.JournalState.{JournalState, Keeps, Appends, StaysKept, LeavesRest, OthersStay, HasBegun, IsGone, HasNoRecord, with_written, Undoes, TakesCheckpoint, RollsBackTo, RollsBackAll};
 
 use crate::checkpoints::LONGEST_CHECKPOINT;
 use crate::entries::{Head, PageEntry, PendingEntry, TransactionEntry};
@@ -44,6 +43,9 @@ const WIDENINGS: usize = 50;
 ///
 /// An accepted update can always be rolled back: the LSNs and the room for that are set aside when the
 /// update is appended.
+///
+/// An operation changes its own transaction alone. Only `frames_taken` removes frames, and only
+/// `log_written` changes the LSN up to which the log is known to be on the disk.
 #[derive(Drop)]
 pub struct Journal {
     head: Head,
@@ -215,9 +217,7 @@ impl Journal {
     pub fn log_written(&mut self, lsn: u64) -> Result<(), Refusal>
         ensures ok { OnOk result (StaysKept self.old self.new) }
         ensures known { OnOk result (lsn ≤ self.old.taken) }
-        ensures written { OnOk result (self.new ≡ record self.old {
-          head = record self.old.head { written = max self.old.head.written lsn };
-        }) }
+        ensures written { OnOk result (self.new ≡ with_written lsn self.old) }
         ensures kept { OnErr result (self.new ≡ self.old) }
         ensures err { IsOkUnless result NoSuchLsn }
         ensures refused { OnErr result (self.old.taken < lsn) }
@@ -272,9 +272,7 @@ impl Journal {
     pub fn page_written(&mut self, number: u32, page_lsn: u64) -> Result<(), Refusal>
         ensures ok { OnOk result ((base : BasePages) (run : Run) → Keeps base run self.old
             → Keeps base (reported run number page_lsn) self.new) }
-        ensures there { OnOk result (number < length self.old.pages) }
-        ensures known { OnOk result ((d : PageEntry)
-            → page_lsn ≤ (slice_index_or self.old.pages number d).page.lsn) }
+        ensures known { OnOk result (Reaches self.old.pages number page_lsn) }
         ensures noted { OnOk result (IsNoted self.old.pages self.new.pages number page_lsn) }
         ensures rest { self.new ≡ record self.old { pages = self.new.pages } }
         ensures kept { OnErr result (self.new ≡ self.old) }
@@ -294,10 +292,8 @@ impl Journal {
     pub fn cancel(&mut self, tx: u32) -> Result<(), Refusal>
         ensures ok { OnOk result (StaysKept self.old self.new) }
         ensures frames { self.new.frames ≡ self.old.frames }
-        ensures gone { OnOk result ((base : BasePages) (run : Run) → Keeps base run self.old
-            → kept_of self.new.transactions self.new.pending tx ≡ None) }
-        ensures unlogged { OnOk result ((base : BasePages) (run : Run) → Keeps base run self.old
-            → has (is_of tx) (log_of run) ≡ false) }
+        ensures gone { OnOk result (IsGone self.old self.new tx) }
+        ensures unlogged { OnOk result (HasNoRecord self.old tx) }
         ensures others { OnOk result (OthersStay self.old self.new tx) }
         ensures rest { LeavesRest self.old self.new }
         ensures kept { OnErr result (self.new ≡ self.old) }
@@ -310,7 +306,7 @@ impl Journal {
     }
 
     /// Opens the journal of a new log, which begins in this way and has no record. The pages of the store
-    /// become the base pages of the log, and are on the disk.
+    /// become the base pages of the log. They are on the disk, and so is the log, up to its base LSN.
     ///
     /// Errors:
     /// - HasMaster: the store's master is not 0, so it names a checkpoint of another log.
@@ -376,7 +372,8 @@ impl Journal {
     }
 
     /// Opens the journal that continues a log. The log and the store must be lawful, and each page must
-    /// have all that the log made of it: a recovery leaves them like this. Both must be on the disk.
+    /// have all that the log made of it: a recovery leaves them like this. Both must be on the disk, since
+    /// the journal assumes that the whole log is.
     /// Transactions that are unfinished in the log, such as those in doubt, keep their numbers and states,
     /// and hold their cells.
     ///
@@ -408,8 +405,8 @@ impl Journal {
         Err(Refusal::NoResource)
     }
 
-    /// A transaction begins. Returns its number, from 1, which no transaction in the log has. No record
-    /// is appended.
+    /// A transaction begins. Returns its number, from 1, which is larger than that of each transaction
+    /// that began before or has a record in the log. No record is appended.
     ///
     /// Errors, after which the journal is unchanged:
     /// - TooManyTransactions: as many transactions are unfinished as a checkpoint can list.
@@ -418,13 +415,11 @@ impl Journal {
     /// - NoResource: memory was refused.
     pub fn begin(&mut self) -> Result<u32, Refusal>
         ensures ok { OnOk result (StaysKept self.old self.new) }
-        ensures begun { IfOk result (λ tx. (base : BasePages) (run : Run) → Keeps base run self.old
-            → is_some (kept_of self.new.transactions self.new.pending tx) ≡ true) }
-        ensures others { IfOk result (λ tx. OthersStay self.old self.new tx) }
+        ensures begun { IfOk result (HasBegun self.old self.new) }
+        ensures others { IfOk result (OthersStay self.old self.new) }
         ensures number { IfOk result (λ tx. tx ≡ self.old.head.next) }
         ensures next { IfOk result (λ tx. self.new.head.next ≡ tx + 1) }
-        ensures fresh { IfOk result (λ tx. (base : BasePages) (run : Run) → Keeps base run self.old
-            → has (is_of tx) (log_of run) ≡ false) }
+        ensures fresh { IfOk result (HasNoRecord self.old) }
         ensures frames { self.new.frames ≡ self.old.frames }
         ensures unforced { self.new.head.written ≡ self.old.head.written }
         ensures taken { self.new.taken ≡ self.old.taken }
