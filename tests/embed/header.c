@@ -359,13 +359,14 @@ static void check_journal(void) {
     need(is_done(aries_journal_page_written(pages, 1, 0, 1)) && pages[0].rec_lsn == 0);
     need(is_done(aries_journal_newest(&journal, transactions, 2, pending, 2, tx, &lsn)) && lsn == 1);
     need(is_done(aries_journal_undo(&journal, transactions, 2, pages, 1, pending, 2, tx, out, 128, &length)));
-    need(length == 39 && journal.last == 2 && is_image(&pages[0].page.slots[0], &ABSENT));
+    need(length == 39 && journal.last == 2 && journal.written == 1 && is_image(&pages[0].page.slots[0], &ABSENT));
     need(is_done(aries_journal_checkpoint(&journal, transactions, 2, pages, 1, out, 128, &length)));
-    need(length == 42 + 21 + 12 && journal.last == 4);
+    need(length == 42 + 21 + 12 && journal.last == 4 && journal.written == 1);
     need(is_done(aries_journal_turn(&journal, transactions, 2, pending, 2, tx, ARIES_END, out, 128, &length)));
-    need(length == 25 && journal.last == 5 && journal.transactions == 0);
+    need(length == 25 && journal.last == 5 && journal.written == 1 && journal.transactions == 0);
     need(is_done(aries_journal_begin(&journal, transactions, 2, &tx)) && tx == 2);
     need(is_done(aries_journal_cancel(&journal, transactions, 2, tx)) && journal.transactions == 0);
+    need(journal.next == 3 && journal.written == 1);
 }
 
 static void check_journals(void) {

@@ -7,7 +7,7 @@ use Rattle.journal.specs.declared.entries.TransactionEntry.{TransactionEntry}
 use Rattle.journal.specs.declared.entries.PendingEntry.{PendingEntry}
 use Rattle.journal.specs.declared.entries.PageEntry.{PageEntry}
 use Rattle.journal.specs.Runs.{Run, reported, count_of, log_of}
-use Rattle.journal.specs.Arrays.{kept_of}
+use Rattle.journal.specs.Arrays.{kept_of, LeavesOthers}
 use Rattle.journal.specs.Rollbacks.{newest_of}
 use Rattle.journal.specs.Refusals.{BeginRefused, CancelRefused, StepRefused, ReportRefused, LogWrittenRefused, PageToWriteRefused}
 use Rattle.journal.specs.State.{IsJournal}
@@ -25,6 +25,12 @@ abbrev pub HasBegun : Head → List TransactionEntry → Head → List Transacti
 HasBegun head ts after after_ts tx told = OnDone told (
     (base : BasePages) (run : Run) (pages : List PageEntry) (ps : List PendingEntry) → IsJournal base run head ts pages ps
     → is_some (kept_of (take after.transactions after_ts) (take after.pending ps) tx) ≡ true)
+
+-- what is kept of each transaction but this one is as it was
+abbrev pub OthersStay : Head → List TransactionEntry → Head → List TransactionEntry → (tx : ℕ) → Told → Type 0
+OthersStay head ts after after_ts tx told = OnDone told (
+    (base : BasePages) (run : Run) (pages : List PageEntry) (ps : List PendingEntry) → IsJournal base run head ts pages ps
+    → LeavesOthers tx (take head.transactions ts) (take head.pending ps) (take after.transactions after_ts) (take after.pending ps))
 
 -- no record of the log has this number
 abbrev pub IsFresh : Head → List TransactionEntry → (tx : ℕ) → Told → Type 0

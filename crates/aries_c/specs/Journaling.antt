@@ -1,5 +1,5 @@
 -- What C gets of a journal (own).
-use Rattle.std.specs.Prelude.{◌≡◌, ◌≢◌, ◌⊎◌, ℕ, List, length}
+use Rattle.std.specs.Prelude.{◌≡◌, ◌≢◌, ◌⊎◌, ℕ, List, length, All}
 use Rattle.page.specs.Store.{StoreContent}
 use Rattle.page.specs.File.{SpellsStore, StoreFault}
 use Rattle.log_laws.specs.declared.state.State.{State}
@@ -20,6 +20,7 @@ use Rattle.journal.specs.declared.entries.PageEntry.{PageEntry}
 use Rattle.journal.specs.Runs.{Run, opened, empty_log, MayOpen}
 use Rattle.journal.specs.Refusals.{RefusedFor, EndRefused, PrepareRefused}
 use Rattle.journal.specs.Opened.{NewRefused, OpenRefused, HasPageBehind}
+use Rattle.journal.specs.PageStates.{IsUpToDate}
 use Rattle.journal.specs.State.{IsJournal}
 use Rattle.aries_c.specs.declared.fault.Fault.{Fault as Told}
 use Rattle.aries_c.specs.declared.fault.TheConstants.{NO_ROOM}
@@ -85,6 +86,7 @@ pub record IsNewJournal (version base_lsn : ℕ) (store : List ℕ) (head : Head
   pub fits : FitsStart begins
   pub no_master : content.master ≡ 0
   pub written : head.written ≡ base_lsn
+  pub unused : head.transactions ≡ 0
   pub journal : (ts : List TransactionEntry) (ps : List PendingEntry) → IsJournal (base_pages content.pages) (opened (empty_log begins) content) head ts pages ps
 
 -- no log has this version and this base LSN
@@ -105,6 +107,7 @@ pub record ContinuesJournal (log store : List ℕ) (head : Head) (ts : List Tran
   pub reads : Reads log read 0
   pub spells : SpellsStore store content
   pub written : head.written ≡ last_lsn (history read)
+  pub current : All (IsUpToDate (history read)) content.pages
   pub journal : (base : BasePages) → MayOpen base read content → IsJournal base (opened read content) head ts pages ps
 
 -- the log has a torn tail

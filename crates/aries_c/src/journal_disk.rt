@@ -1,9 +1,11 @@
 //! The checkpoints of a journal, and what it gets to know of the disk.
 
-ghost use Rattle.std.specs.Prelude.{◌≡◌, ◌≤◌, ◌+◌, ℕ, List, max, length};
+ghost use Rattle.std.specs.Prelude.{◌≡◌, ◌≤◌, ◌<◌, ◌+◌, ℕ, List, max, length, slice_index_or};
 ghost use Rattle.log_laws.specs.Records.{TableEntry, CheckpointBegin};
 ghost use Rattle.log_laws.specs.Meaning.{BasePages};
 ghost use Rattle.journal.specs.declared.entries.PendingEntry.{PendingEntry};
+ghost use Rattle.journal.specs.declared.entries.PageEntry.{PageEntry};
+ghost use Rattle.journal.specs.Arrays.{IsNoted};
 ghost use Rattle.journal.specs.Runs.{Run, appended, AreTrueTables};
 ghost use Rattle.journal.specs.Writing.{Begins};
 ghost use Rattle.journal.specs.Taken.{checkpoint_text, run_taken, CheckpointRefused};
@@ -38,6 +40,10 @@ pub extern "C" fn aries_journal_checkpoint(
         × (told.new ≡ length (checkpoint_text (journal.old.last + 1) entries dirty))) }
     ensures short { OnDone result (told.new ≤ LONGEST_CHECKPOINT) }
     ensures lsn { OnDone result (journal.new.last ≡ journal.old.last + 2) }
+    ensures unforced { journal.new.written ≡ journal.old.written }
+    ensures next { journal.new.next ≡ journal.old.next }
+    ensures count { journal.new.transactions ≡ journal.old.transactions }
+    ensures updates { journal.new.pending ≡ journal.old.pending }
     ensures journal { OnFailed result (journal.new ≡ journal.old) }
     ensures out { OnFailed result (out.new ≡ out.old) }
     ensures refused { OnFailed result ((base : BasePages) (run : Run) (ps : List PendingEntry)
@@ -53,7 +59,9 @@ pub extern "C" fn aries_journal_checkpoint(
 #[unsafe(no_mangle)]
 pub extern "C" fn aries_journal_log_written(journal: &mut Head, lsn: u64) -> Fault
     ensures ok { StaysJournal journal.old journal.new }
-    ensures written { OnDone result (journal.new.written ≡ max journal.old.written lsn) }
+    ensures known { OnDone result (lsn ≤ journal.old.last) }
+    ensures written { OnDone result (journal.new
+        ≡ record journal.old { written = max journal.old.written lsn }) }
     ensures journal { OnFailed result (journal.new ≡ journal.old) }
     ensures refused { LogWrittenFails journal.old lsn result }
 {
@@ -83,6 +91,10 @@ pub extern "C" fn aries_journal_page_written(
     page_lsn: u64,
 ) -> Fault
     ensures ok { Reports pages.old pages.new page page_lsn result }
+    ensures there { OnDone result (page < length pages.old) }
+    ensures known { OnDone result ((d : PageEntry)
+        → page_lsn ≤ (slice_index_or pages.old page d).page.lsn) }
+    ensures noted { OnDone result (IsNoted pages.old pages.new page page_lsn) }
     ensures pages { OnFailed result (pages.new ≡ pages.old) }
     ensures refused { ReportFails pages.old page page_lsn result }
 {

@@ -1,20 +1,20 @@
 //! The operations of transactions in a journal.
 
-ghost use Rattle.std.specs.Prelude.{◌≡◌, ◌≤◌, ◌+◌, List, length};
+ghost use Rattle.std.specs.Prelude.{◌≡◌, ◌≤◌, ◌+◌, List, length, take};
 ghost use Rattle.wal.specs.declared.sizes.TheConstants.{PLAIN_FRAME};
 ghost use Rattle.log_laws.specs.Records.{LogRecord};
 ghost use Rattle.log_laws.specs.Meaning.{BasePages};
 ghost use Rattle.wal.specs.Spelling.{frame};
 ghost use Rattle.journal.specs.declared.entries.PageEntry.{PageEntry};
 ghost use Rattle.journal.specs.Runs.{Run, appended};
-ghost use Rattle.journal.specs.Arrays.{image_of};
+ghost use Rattle.journal.specs.Arrays.{image_of, LeavesOthers};
 ghost use Rattle.journal.specs.Writing.{IsWritten, HasKind};
 ghost use Rattle.journal.specs.Refusals.{UpdateRefused, UndoRefused};
 ghost use Rattle.journal.specs.declared.framing.TheConstants.{LONGEST_CHANGE, LONGEST_UNDO};
 ghost use Rattle.journal.specs.State.{IsJournal, update_by, IsUndo, plain_by};
 ghost use Rattle.aries_c.specs.Fault.{OnDone, OnFailed};
 ghost use Rattle.aries_c.specs.Journaling.{RefusesFrame, TurnRefused};
-ghost use Rattle.aries_c.specs.JournalCalls.{KeepsRun, HasBegun, IsFresh, BeginFails, IsGone, CancelFails, IsNewest, NewestFails};
+ghost use Rattle.aries_c.specs.JournalCalls.{KeepsRun, HasBegun, OthersStay, IsFresh, BeginFails, IsGone, CancelFails, IsNewest, NewestFails};
 
 use crate::Fault;
 use crate::refusal::{answer, frame_answer, refused};
@@ -31,6 +31,10 @@ pub extern "C" fn aries_journal_begin(
     ensures begun { HasBegun journal.old transactions.old journal.new transactions.new tx.new result }
     ensures fresh { IsFresh journal.old transactions.old tx.new result }
     ensures last { journal.new.last ≡ journal.old.last }
+    ensures others { OthersStay journal.old transactions.old journal.new transactions.new tx.new result }
+    ensures number { OnDone result (tx.new ≡ journal.old.next) }
+    ensures next { OnDone result (journal.new.next ≡ tx.new + 1) }
+    ensures unforced { journal.new.written ≡ journal.old.written }
     ensures journal { OnFailed result (journal.new ≡ journal.old) }
     ensures transactions { OnFailed result (transactions.new ≡ transactions.old) }
     ensures tx { OnFailed result (tx.new ≡ tx.old) }
@@ -55,6 +59,10 @@ pub extern "C" fn aries_journal_cancel(
     ensures ok { KeepsRun journal.old transactions.old journal.new transactions.new result }
     ensures gone { IsGone journal.old transactions.old journal.new transactions.new tx result }
     ensures last { journal.new.last ≡ journal.old.last }
+    ensures unlogged { IsFresh journal.old transactions.old tx result }
+    ensures others { OthersStay journal.old transactions.old journal.new transactions.new tx result }
+    ensures unforced { journal.new.written ≡ journal.old.written }
+    ensures next { journal.new.next ≡ journal.old.next }
     ensures journal { OnFailed result (journal.new ≡ journal.old) }
     ensures transactions { OnFailed result (transactions.new ≡ transactions.old) }
     ensures refused { CancelFails journal.old transactions.old tx result }
@@ -88,6 +96,13 @@ pub extern "C" fn aries_journal_update(
         out.old out.new told.new) }
     ensures short { OnDone result (told.new ≤ LONGEST_CHANGE) }
     ensures lsn { OnDone result (journal.new.last ≡ journal.old.last + 1) }
+    ensures others { OnDone result ((base : BasePages) (run : Run)
+        → IsJournal base run journal.old transactions.old pages.old pending.old
+        → LeavesOthers tx (take journal.old.transactions transactions.old)
+        (take journal.old.pending pending.old)
+        (take journal.new.transactions transactions.new) (take journal.new.pending pending.new)) }
+    ensures unforced { journal.new.written ≡ journal.old.written }
+    ensures next { journal.new.next ≡ journal.old.next }
     ensures journal { OnFailed result (journal.new ≡ journal.old) }
     ensures transactions { OnFailed result (transactions.new ≡ transactions.old) }
     ensures pages { OnFailed result (pages.new ≡ pages.old) }
@@ -134,6 +149,13 @@ pub extern "C" fn aries_journal_undo(
         × IsWritten r (journal.old.last + 1) out.old out.new told.new) }
     ensures short { OnDone result (told.new ≤ LONGEST_UNDO) }
     ensures lsn { OnDone result (journal.new.last ≡ journal.old.last + 1) }
+    ensures others { OnDone result ((base : BasePages) (run : Run)
+        → IsJournal base run journal.old transactions.old pages.old pending.old
+        → LeavesOthers tx (take journal.old.transactions transactions.old)
+        (take journal.old.pending pending.old)
+        (take journal.new.transactions transactions.new) (take journal.new.pending pending.new)) }
+    ensures unforced { journal.new.written ≡ journal.old.written }
+    ensures next { journal.new.next ≡ journal.old.next }
     ensures journal { OnFailed result (journal.new ≡ journal.old) }
     ensures transactions { OnFailed result (transactions.new ≡ transactions.old) }
     ensures pages { OnFailed result (pages.new ≡ pages.old) }
@@ -168,6 +190,13 @@ pub extern "C" fn aries_journal_turn(
         × IsWritten r (journal.old.last + 1) out.old out.new told.new) }
     ensures short { OnDone result (told.new ≡ PLAIN_FRAME) }
     ensures lsn { OnDone result (journal.new.last ≡ journal.old.last + 1) }
+    ensures others { OnDone result ((base : BasePages) (run : Run) (pages : List PageEntry)
+        → IsJournal base run journal.old transactions.old pages pending.now
+        → LeavesOthers tx (take journal.old.transactions transactions.old)
+        (take journal.old.pending pending.now)
+        (take journal.new.transactions transactions.new) (take journal.new.pending pending.now)) }
+    ensures unforced { journal.new.written ≡ journal.old.written }
+    ensures next { journal.new.next ≡ journal.old.next }
     ensures journal { OnFailed result (journal.new ≡ journal.old) }
     ensures transactions { OnFailed result (transactions.new ≡ transactions.old) }
     ensures out { OnFailed result (out.new ≡ out.old) }

@@ -1,5 +1,5 @@
 -- What each operation makes of a journal in its arrays.
-use Rattle.std.proofs.Common.{◌≡◌, ◌≢◌, ◌<◌, ◌≤◌, ◌+◌, ◌-◌, ◌*◌, ◌^◌, ℕ, suc, true, cond, List, [], ◌∷◌, ◌++◌, length, get_or, set, take, drop, map, min, Option, Some, None, refl, sym, ap, subst, ◌∙◌, inl, inr, arith, eqb, eq-eqb, eqb-true, length-append}
+use Rattle.std.proofs.Common.{◌≡◌, ◌≢◌, ◌<◌, ◌≤◌, ◌+◌, ◌-◌, ◌*◌, ◌^◌, ℕ, suc, true, false, cond, List, [], ◌∷◌, ◌++◌, length, get_or, set, take, drop, map, min, Option, Some, None, refl, sym, ap, subst, ◌∙◌, inl, inr, arith, eqb, eq-eqb, ne_eqb, eqb-true, length-append}
 use Rattle.std.specs.Prelude.{◌⊎◌, All, is_some}
 use Rattle.std.specs.List.{remove}
 use Rattle.std.proofs.lemmas.Bool.{cases_lt, cases_Bool}
@@ -24,7 +24,7 @@ use Rattle.journal.specs.Refusals.{allows}
 use Rattle.journal.specs.Transactions.{Pending, Transaction, AreTransactions, IsFreeFor, IsNewest}
 use Rattle.journal.specs.PageStates.{PageState, ArePageStates, changed, written}
 use Rattle.journal.specs.PageStates.{IsCurrent}
-use Rattle.journal.specs.Arrays.{bound_of, image_of, page_of, page_state_of, state_of, update_of, kept_of, pending_of, is_live, NoneBy, IsTable, AreUsed, AreArrays, weight, owed, OwesLess, IsRoomMade, updated, undone, in_state, without_owner}
+use Rattle.journal.specs.Arrays.{bound_of, image_of, page_of, page_state_of, state_of, update_of, kept_of, LeavesOthers, pending_of, is_live, NoneBy, IsTable, AreUsed, AreArrays, weight, owed, OwesLess, IsRoomMade, updated, undone, in_state, without_owner}
 use Rattle.journal.specs.State.{Agrees, IsJournal, update_by, IsUndo, plain_by}
 use Rattle.journal.proofs.Tables.{standing, kept_at, kept_push, table_push}
 use Rattle.journal.proofs.Stacks.{pending_none, pending_push, pending_push_other, undone_other, undone_count, length_left}
@@ -159,6 +159,15 @@ module _ (base : BasePages) (run : Run) (head : Head) (ts : List TransactionEntr
       let new : kept_of (es ++ e ∷ []) xs head.next ≡ Some (standing e xs) = kept_push es xs e below head.next ∙ rw own refl in
       ap (λ z. is_some (kept_of z xs head.next)) at ∙ ap (λ (o : Option Transaction). is_some o) new
 
+  pub begins_others : (head.transactions < length ts) → LeavesOthers head.next es xs (take (head.transactions + 1) (set ts head.transactions (record { last = 0; undo_next = 0; below = 0; tx = head.next; state = 0 }))) xs
+  begins_others room t other =
+      let e : TransactionEntry = record { last = 0; undo_next = 0; below = 0; tx = head.next; state = 0 } in
+      let at : take (head.transactions + 1) (set ts head.transactions e) ≡ es ++ e ∷ [] = take_more_set ts head.transactions e room in
+      let below : All (λ (f : TransactionEntry). f.tx < e.tx) es =
+      λ k d l. low (get_or es k d).tx (standing (get_or es k d) xs) (kept_at es xs k d (get_or es k d).tx h.arrays.used.table.rising l refl) in
+      let off : eqb e.tx t ≡ false = ne_eqb e.tx t (λ z. other (sym z)) in
+      ap (λ z. kept_of z xs t) at ∙ kept_push es xs e below t ∙ rw off refl
+
   -- WHAT IS KNOWN OF A PAGE
   pub page_lsn : (page : ℕ) (d : PageEntry) → page < length pages → (page < count_of run) × ((get_or pages page d).page.lsn ≡ last_on base page (log_of run))
   page_lsn page d room =
@@ -245,6 +254,11 @@ module _ (base : BasePages) (run : Run) (head : Head) (ts : List TransactionEntr
 
     put_size : (e : TransactionEntry) (now : List TransactionEntry) → now ≡ set ts place e → head.transactions ≤ length now
     put_size e now is = (let n : length now ≡ length (set ts place e) = ap length is in omega (arith, n, length-set ts place e, h.arrays.room))
+
+    pub turned_others : (state lsn : ℕ) (now : List TransactionEntry) → now ≡ set ts place (in_state (get_or ts place no_entry) state lsn) → LeavesOthers tx es xs (take head.transactions now) xs
+    turned_others state lsn now e t other =
+        let off : eqb tx t ≡ false = ne_eqb tx t (λ z. other (sym z)) in
+        ap (λ z. kept_of z xs t) (put (λ f. in_state f state lsn) now e) ∙ (turns head.next es xs h.arrays.used place no_entry within tx found state lsn).others t off
 
     module _ (lsn : ℕ) (is : lsn ≡ head.last + 1) (small : lsn < 2 ^ 64) (now : List TransactionEntry) where
       -- IT CHANGES ITS STATE
@@ -469,6 +483,15 @@ module _ (base : BasePages) (run : Run) (head : Head) (ts : List TransactionEntr
               let less : length (pending_of own.tx fewer) + 1 ≡ length (pending_of own.tx xs) = subst (λ t. length (pending_of t fewer) + 1 ≡ length (pending_of t xs)) (sym found) (undone_count tx xs top no_update top_within its_own none_behind its_some) in
               omega (arith, a, b, o, less)
 
+          pub undone_others : now ≡ set ts place (undone (get_or ts place no_entry) lsn update.prev top) → gone ≡ set ps top (without_owner update) → LeavesOthers tx es xs (take head.transactions now) (take head.pending gone)
+          undone_others e left_is t other =
+              let at = put (λ f. undone f lsn update.prev top) now e in
+              let rest : take head.pending gone ≡ set xs top (without_owner (get_or xs top no_update)) =
+              ap (take head.pending) left_is ∙ take_set head.pending ps top (without_owner update) (omega (arith, top_below, from_in)) ∙ ap (λ (p : PendingEntry). set xs top (without_owner p)) (sym update_is) in
+              let off : eqb tx t ≡ false = ne_eqb tx t (λ z. other (sym z)) in
+              ap (λ z. kept_of z (take head.pending gone) t) at ∙ ap (λ z. kept_of (set es place (undone own lsn update.prev top)) z t) rest
+              ∙ (undoes_changes head.next es xs h.arrays.used place no_entry within tx found top no_update top_within its_own none_behind lsn update.prev).others t off
+
           pub undone_is : now ≡ set ts place (undone (get_or ts place no_entry) lsn update.prev top) → gone ≡ set ps top (without_owner update)
               → ((d : PageState) → map page_state_of held ≡ set (map page_state_of pages) update.page (changed (get_or (map page_state_of pages) update.page d) tx update.slot (image_of update.before) lsn))
               → allows NotPrepared (state_of own.state) ≡ true → Fits (Compensation (clr own.last))
@@ -538,6 +561,15 @@ module _ (base : BasePages) (run : Run) (head : Head) (ts : List TransactionEntr
       module _ (lsn : ℕ) (is : lsn ≡ head.last + 1) (small : lsn < 2 ^ 64) (page slot : ℕ) (before after : Image) (now : List TransactionEntry) (gone : List PendingEntry) (held : List PageEntry) where
         abbrev entry : PendingEntry
         entry = record { lsn = lsn; prev = own.last; tx = tx; page = page; slot = slot; before = before }
+
+        pub updated_others : now ≡ set ts place (updated (get_or ts place no_entry) lsn (top + 1)) → gone ≡ set more top entry → LeavesOthers tx es xs (take head.transactions now) (take (top + 1) gone)
+        updated_others e gone_is t other =
+            let at : take head.transactions now ≡ set es place (updated own lsn (length ys + 1)) = put (λ f. updated f lsn (top + 1)) now e ∙ ap (λ n. set es place (updated own lsn (n + 1))) (sym ys_size) in
+            let rest : take (top + 1) gone ≡ ys ++ entry ∷ [] = ap (take (top + 1)) gone_is ∙ take_more_set more top entry (omega (arith, top_in, size_more)) in
+            let off : eqb tx t ≡ false = ne_eqb tx t (λ z. other (sym z)) in
+            ap (λ z. kept_of z (take (top + 1) gone) t) at ∙ ap (λ z. kept_of (set es place (updated own lsn (length ys + 1))) z t) rest
+            ∙ (updates_changes head.next es ys ys_used place no_entry within tx found entry refl its_number).others t off
+            ∙ ys_kept t
 
         pub updated_is : head.last + 2 + 2 * head.transactions + head.pending < 2 ^ 64 → now ≡ set ts place (updated (get_or ts place no_entry) lsn (top + 1)) → gone ≡ set more top entry
             → ((d : PageState) → map page_state_of held ≡ set (map page_state_of pages) page (changed (get_or (map page_state_of pages) page d) tx slot (image_of after) lsn))

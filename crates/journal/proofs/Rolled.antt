@@ -14,7 +14,11 @@ use Rattle.journal.specs.Runs.{Run, appended, log_of}
 use Rattle.journal.specs.Refusals.{StepRefused, OwnUndoRefused, OwnEndRefused}
 use Rattle.journal.specs.State.{IsUndo}
 use Rattle.journal.specs.Rollbacks.{newest_of, CanUndo, all_appended}
-use Rattle.journal.specs.JournalState.{JournalState, Keeps, AreUndos}
+use Rattle.journal.specs.JournalState.{JournalState, Keeps, LeavesRest, AreUndos}
+
+-- the rest was left by two operations in turn
+pub rest_joined : (first second third : JournalState) → LeavesRest first second → LeavesRest second third → LeavesRest first third
+rest_joined first second third h k = record { written = k.written ∙ h.written; taken = k.taken ∙ h.taken; next = k.next ∙ h.next }
 
 pub record Rolled (base : BasePages) (run : Run) (tx savepoint count newest : ℕ) (state : JournalState) : Type 0 where
   pub records : List LogRecord

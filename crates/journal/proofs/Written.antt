@@ -1,5 +1,5 @@
 -- Texts at the front of a buffer.
-use Rattle.std.proofs.Common.{◌≡◌, ◌+◌, ℕ, ◌∷◌, ◌++◌, sym, ap₂}
+use Rattle.std.proofs.Common.{◌≡◌, ℕ, ◌∷◌, ◌++◌, sym, ap₂}
 use Rattle.std.specs.Int.{w32, w64, to_be_bytes}
 use Rattle.log_laws.specs.Records.{PlainRecord, LogRecord, Commit, Abort, End, Prepare}
 use Rattle.wal.specs.Spelling.{plain, frame}

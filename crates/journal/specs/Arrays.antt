@@ -1,5 +1,5 @@
 -- What the arrays of a journal mean (own).
-use Rattle.std.specs.Prelude.{◌≡◌, ◌≢◌, ◌≤◌, ◌<◌, ◌+◌, ◌^◌, ◌⊎◌, ◌==◌, nat_le, min, ⊤, ℕ, Bool, true, List, [], ◌∷◌, ◌++◌, length, take, drop, map, filter, All, Option, Some, None, if◌then◌else◌}
+use Rattle.std.specs.Prelude.{◌≡◌, ◌≢◌, ◌≤◌, ◌<◌, ◌+◌, ◌^◌, ◌⊎◌, ◌==◌, nat_le, min, ⊤, ℕ, Bool, true, List, [], ◌∷◌, ◌++◌, length, take, drop, map, filter, All, Option, Some, None, if◌then◌else◌, slice_index_or, slice_set}
 use Rattle.std.specs.List.{list_any}
 use Rattle.std.specs.Map.{lookup}
 use Rattle.std.specs.Ordering.{is_eq, nat_cmp}
@@ -19,7 +19,7 @@ use Rattle.journal.specs.declared.entries.PageEntry.{PageEntry}
 use Rattle.journal.specs.declared.refusal.Refusal.{Refusal}
 use Rattle.journal.specs.declared.refusal.Refusal.TheVariants.{NoPendingRoom, BadArrays}
 use Rattle.journal.specs.Transactions.{Pending, Transaction}
-use Rattle.journal.specs.PageStates.{PageState}
+use Rattle.journal.specs.PageStates.{PageState, written}
 
 -- VALUES. A length above that of the longest value means that the value is absent.
 abbrev pub image_of : Image → Content
@@ -63,6 +63,10 @@ row_of ps e = (e.tx, record { entry = entry_in e; pending = pending_of e.tx ps }
 unfoldable pub kept_of : List TransactionEntry → List PendingEntry → ℕ → Option Transaction
 kept_of es ps t = lookup (λ k. is_eq (nat_cmp t k)) (map (row_of ps) es)
 
+-- what is kept of each transaction but this one is as it was
+abbrev pub LeavesOthers : (tx : ℕ) → (before : List TransactionEntry) → List PendingEntry → (after : List TransactionEntry) → List PendingEntry → Type 0
+LeavesOthers tx es ps fs qs = (t : ℕ) → t ≢ tx → kept_of fs qs t ≡ kept_of es ps t
+
 -- each number is below those after it
 abbrev pub Ascends : List TransactionEntry → Type 0
 Ascends [] = ⊤
@@ -101,6 +105,16 @@ pub record AreArrays (head : Head) (ts : List TransactionEntry) (ps : List Pendi
 -- the newest pending update of a transaction is before this place, if this many entries are in use; if its UndoNxtLSN is 0, it has none
 abbrev pub bound_of : TransactionEntry → ℕ → ℕ
 bound_of e count = if e.undo_next == 0 then 0 else min e.below count
+
+-- the page of this number is there, and its PageLSN is this LSN or a larger one
+pub record Reaches (pages : List PageEntry) (number lsn : ℕ) : Type 0 where
+  pub there : number < length pages
+  pub low : (d : PageEntry) → lsn ≤ (slice_index_or pages number d).page.lsn
+
+-- A REPORT that the image of the page of this number with this PageLSN is on the disk was noted, and the other pages are as they were.
+abbrev pub IsNoted : (before after : List PageEntry) → (number lsn : ℕ) → Type 0
+IsNoted before after number lsn =
+    (d : PageState) → map page_state_of after ≡ slice_set (map page_state_of before) number (written (slice_index_or (map page_state_of before) number d) lsn)
 
 -- RESERVE. How many records the rollback of a transaction may still need: a CLR for each pending update, an abort if it is not aborting,
 -- and an end.

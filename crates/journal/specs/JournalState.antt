@@ -1,7 +1,7 @@
 -- What a journal keeps, against its run (own).
-use Rattle.std.specs.Prelude.{⊤, ◌≡◌, ◌<◌, ◌≤◌, ◌-◌, ◌+◌, ◌*◌, ◌^◌, ℕ, List, [], ◌∷◌, ◌++◌, map, drop}
+use Rattle.std.specs.Prelude.{⊤, true, false, max, is_some, None, ◌≡◌, ◌<◌, ◌≤◌, ◌-◌, ◌+◌, ◌*◌, ◌^◌, ℕ, List, [], ◌∷◌, ◌++◌, map, drop}
 use Rattle.log_laws.specs.Records.{LogRecord, End, LogContent, TableEntry, CheckpointBegin, lsn_before, up_to, history, last_lsn}
-use Rattle.log_laws.specs.Meaning.{BasePages, pending}
+use Rattle.log_laws.specs.Meaning.{BasePages, is_of, has, pending}
 use Rattle.wal.specs.Reads.{spellings, log_text}
 use Rattle.journal.specs.declared.entries.Head.{Head}
 use Rattle.journal.specs.declared.entries.TransactionEntry.{TransactionEntry}
@@ -9,7 +9,7 @@ use Rattle.journal.specs.declared.entries.PageEntry.{PageEntry}
 use Rattle.journal.specs.declared.entries.PendingEntry.{PendingEntry}
 use Rattle.journal.specs.Runs.{Run, appended, log_before, content_of, log_of, AreTrueTables}
 use Rattle.journal.specs.declared.framing.TheConstants.{LONGEST_UNDO}
-use Rattle.journal.specs.Arrays.{kept_of, page_state_of, AreUsed, owed}
+use Rattle.journal.specs.Arrays.{kept_of, LeavesOthers, page_state_of, AreUsed, owed}
 use Rattle.journal.specs.Taken.{run_taken}
 use Rattle.journal.specs.Rollbacks.{newest_of, all_appended}
 use Rattle.journal.specs.State.{Agrees, IsUndo, plain_by}
@@ -47,6 +47,34 @@ Appends before after r = (base : BasePages) (run : Run) → Keeps base run befor
 -- the same journal, of each run of which it was the journal
 abbrev pub StaysKept : (before after : JournalState) → Type 0
 StaysKept before after = (base : BasePages) (run : Run) → Keeps base run before → Keeps base run after
+
+-- An operation on a transaction leaves the rest as it was: the LSN up to which the log is known to be on the disk, the LSN up to which the
+-- frames were taken, and the number of the next transaction.
+pub record LeavesRest (before after : JournalState) : Type 0 where
+  pub written : after.head.written ≡ before.head.written
+  pub taken : after.taken ≡ before.taken
+  pub next : after.head.next ≡ before.head.next
+
+-- what is kept of each transaction but this one is as it was
+abbrev pub OthersStay : (before after : JournalState) → (tx : ℕ) → Type 0
+OthersStay before after tx = (base : BasePages) (run : Run) → Keeps base run before → LeavesOthers tx before.transactions before.pending after.transactions after.pending
+
+-- BEGIN AND CANCEL
+-- a transaction of this number has begun
+abbrev pub HasBegun : (before after : JournalState) → (tx : ℕ) → Type 0
+HasBegun before after tx = (base : BasePages) (run : Run) → Keeps base run before → is_some (kept_of after.transactions after.pending tx) ≡ true
+
+-- a transaction of this number is not kept any more
+abbrev pub IsGone : (before after : JournalState) → (tx : ℕ) → Type 0
+IsGone before after tx = (base : BasePages) (run : Run) → Keeps base run before → kept_of after.transactions after.pending tx ≡ None
+
+-- no record of the log has this number
+abbrev pub HasNoRecord : JournalState → (tx : ℕ) → Type 0
+HasNoRecord j tx = (base : BasePages) (run : Run) → Keeps base run j → has (is_of tx) (log_of run) ≡ false
+
+-- THE LOG is known to be on the disk up to this LSN too, and all else is as it was.
+abbrev pub with_written : (lsn : ℕ) → JournalState → JournalState
+with_written lsn j = record j { head = record j.head { written = max j.head.written lsn } }
 
 -- UNDO. The newest pending update of the transaction was undone by one CLR.
 abbrev pub Undoes : (before after : JournalState) → (tx : ℕ) → Type 0

@@ -1,13 +1,13 @@
-//! How transactions begin, and how one without a record leaves.
+//! How transactions begin, and how one without a record leaves. No other transaction changes.
 
-ghost use Rattle.std.specs.Prelude.{◌≡◌, ◌≤◌, ◌+◌, List, false, is_some, true, IfOk, OnOk, OnErr, IfErr, length, take, ◌≢◌, ℕ, None};
-ghost use Rattle.log_laws.specs.Meaning.{BasePages, is_of, has};
+ghost use Rattle.std.specs.Prelude.{◌≡◌, ◌≤◌, ◌+◌, List, IfOk, OnOk, OnErr, IfErr, length, take};
+ghost use Rattle.log_laws.specs.Meaning.{BasePages};
 ghost use Rattle.journal.specs.declared.entries.PageEntry.{PageEntry};
 ghost use Rattle.journal.specs.declared.entries.PendingEntry.{PendingEntry};
 ghost use Rattle.journal.specs.Refusals.{BeginRefused, CancelRefused};
-ghost use Rattle.journal.specs.Runs.{Run, log_of};
+ghost use Rattle.journal.specs.Runs.{Run};
 ghost use Rattle.journal.specs.Arrays.{kept_of, OwesLess};
-ghost use Rattle.journal.specs.State.{IsJournal};
+ghost use Rattle.journal.specs.State.{IsJournal, HasBegun, IsGone, HasNoRecord, OthersStay};
 
 use crate::entries::{Head, TransactionEntry};
 use crate::operations::reserve;
@@ -31,13 +31,11 @@ pub fn begin(head: &mut Head, transactions: &mut [TransactionEntry]) -> Result<u
     ensures ok { OnOk result ((base : BasePages) (run : Run) (pages : List PageEntry)
         (pending : List PendingEntry) → IsJournal base run head.old transactions.old pages pending
         → IsJournal base run head.new transactions.new pages pending) }
-    ensures begun { IfOk result (λ tx. (base : BasePages) (run : Run) (pages : List PageEntry)
-        (pending : List PendingEntry) → IsJournal base run head.old transactions.old pages pending
-        → is_some (kept_of (take head.new.transactions transactions.new)
-        (take head.new.pending pending) tx) ≡ true) }
-    ensures fresh { IfOk result (λ tx. (base : BasePages) (run : Run) (pages : List PageEntry)
-        (pending : List PendingEntry) → IsJournal base run head.old transactions.old pages pending
-        → has (is_of tx) (log_of run) ≡ false) }
+    ensures begun { IfOk result (HasBegun head.old transactions.old head.new transactions.new) }
+    ensures others { IfOk result (OthersStay head.old transactions.old head.new transactions.new) }
+    ensures number { IfOk result (λ tx. tx ≡ head.old.next) }
+    ensures next { IfOk result (λ tx. head.new.next ≡ tx + 1) }
+    ensures fresh { IfOk result (HasNoRecord head.old transactions.old) }
     ensures count { OnOk result (head.new.transactions ≤ length transactions.old) }
     ensures updates { head.new.pending ≡ head.old.pending }
     ensures unforced { head.new.written ≡ head.old.written }
@@ -83,19 +81,9 @@ pub fn cancel(
     ensures ok { OnOk result ((base : BasePages) (run : Run) (pages : List PageEntry)
         (pending : List PendingEntry) → IsJournal base run head.old transactions.old pages pending
         → IsJournal base run head.new transactions.new pages pending) }
-    ensures gone { OnOk result ((base : BasePages) (run : Run) (pages : List PageEntry)
-        (pending : List PendingEntry) → IsJournal base run head.old transactions.old pages pending
-        → kept_of (take head.new.transactions transactions.new)
-        (take head.new.pending pending) tx ≡ None) }
-    ensures unlogged { OnOk result ((base : BasePages) (run : Run) (pages : List PageEntry)
-        (pending : List PendingEntry) → IsJournal base run head.old transactions.old pages pending
-        → has (is_of tx) (log_of run) ≡ false) }
-    ensures others { OnOk result ((base : BasePages) (run : Run) (pages : List PageEntry)
-        (pending : List PendingEntry) → IsJournal base run head.old transactions.old pages pending
-        → (other : ℕ) → other ≢ tx → kept_of (take head.new.transactions transactions.new)
-        (take head.new.pending pending) other
-        ≡ kept_of (take head.old.transactions transactions.old)
-        (take head.old.pending pending) other) }
+    ensures gone { OnOk result (IsGone head.old transactions.old head.new transactions.new tx) }
+    ensures unlogged { OnOk result (HasNoRecord head.old transactions.old tx) }
+    ensures others { OnOk result (OthersStay head.old transactions.old head.new transactions.new tx) }
     ensures owes { OnOk result ((base : BasePages) (run : Run) (pages : List PageEntry)
         (pending : List PendingEntry) → IsJournal base run head.old transactions.old pages pending
         → OwesLess (take head.old.transactions transactions.old) (take head.old.pending pending)

@@ -195,6 +195,7 @@ pub fn checkpoint(
         × Begins (checkpoint_text (head.old.last + 1) entries dirty) frames.old frames.new
         × (size ≡ length (checkpoint_text (head.old.last + 1) entries dirty))) }
     ensures unforced { head.new.written ≡ head.old.written }
+    ensures next { head.new.next ≡ head.old.next }
     ensures size { IfOk result (λ size. size ≤ length frames.old) }
     ensures short { IfOk result (λ size. size ≤ LONGEST_CHECKPOINT) }
     ensures enough { LONGEST_CHECKPOINT ≤ length frames.old → IfErr result IsNotRoom }

@@ -8,6 +8,7 @@ ghost use Rattle.journal.specs.declared.entries.PageEntry.{PageEntry};
 ghost use Rattle.journal.specs.declared.entries.PendingEntry.{PendingEntry};
 ghost use Rattle.journal.specs.Refusals.{ReportRefused, LogWrittenRefused, PageToWriteRefused};
 ghost use Rattle.journal.specs.Runs.{Run, reported, count_of, log_of};
+ghost use Rattle.journal.specs.Arrays.{Reaches, IsNoted};
 ghost use Rattle.journal.specs.State.{IsJournal};
 
 use crate::entries::{Head, PageEntry};
@@ -20,7 +21,9 @@ pub fn log_written(head: &mut Head, lsn: u64) -> Result<(), Refusal>
     ensures ok { (base : BasePages) (run : Run) (ts : List TransactionEntry) (pages : List PageEntry)
         (ps : List PendingEntry) → IsJournal base run head.old ts pages ps
         → IsJournal base run head.new ts pages ps }
-    ensures written { OnOk result (head.new.written ≡ max head.old.written lsn) }
+    ensures known { OnOk result (lsn ≤ head.old.last) }
+    ensures written { OnOk result (head.new
+        ≡ record head.old { written = max head.old.written lsn }) }
     ensures err { OnErr result (head.new ≡ head.old) }
     ensures refused { IfErr result (λ e. (base : BasePages) (run : Run)
         (ts : List TransactionEntry) (pages : List PageEntry) (ps : List PendingEntry)
@@ -64,6 +67,8 @@ pub fn page_written(pages: &mut [PageEntry], number: u32, lsn: u64) -> Result<()
         (ts : List TransactionEntry) (ps : List PendingEntry)
         → IsJournal base run head ts pages.old ps
         → IsJournal base (reported run number lsn) head ts pages.new ps) }
+    ensures known { OnOk result (Reaches pages.old number lsn) }
+    ensures noted { OnOk result (IsNoted pages.old pages.new number lsn) }
     ensures err { OnErr result (pages.new ≡ pages.old) }
     ensures refused { IfErr result (λ e. (base : BasePages) (run : Run) (head : Head)
         (ts : List TransactionEntry) (ps : List PendingEntry)

@@ -73,6 +73,7 @@ pub fn new(begins: LogStart, store: &Store, pages: &mut [PageEntry]) -> Result<H
         head ts pages.new ps) }
     ensures no_master { OnOk result (store.now.master ≡ 0) }
     ensures written { IfOk result (λ head. head.written ≡ lsn_before begins) }
+    ensures none { IfOk result (λ head. head.transactions ≡ 0) }
     ensures kept { OnErr result (pages.new ≡ pages.old) }
     ensures err { IfErr result (NewRefused begins store.now (length pages.old)) }
 {

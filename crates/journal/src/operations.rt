@@ -1,4 +1,5 @@
-//! The operations of transactions that have begun.
+//! The operations of transactions that have begun. Each changes its own transaction alone. It leaves
+//! the LSN up to which the log is known to be on the disk, and the number of the next transaction.
 
 ghost use Rattle.std.specs.Prelude.{◌≡◌, ◌≢◌, ◌<◌, ◌≤◌, ◌+◌, ◌*◌, ◌^◌, ℕ, true, false, is_some, List, None, IfSome, IfOk, OnOk, OnErr, IfErr, IsOkUnless, length, slice_index_or, map, take};
 ghost use Rattle.page.specs.declared.profile.TheConstants.{SLOTS};
@@ -13,13 +14,13 @@ ghost use Rattle.journal.specs.declared.entries.PageEntry.{PageEntry};
 ghost use Rattle.journal.specs.Runs.{Run, appended, count_of, log_of};
 ghost use Rattle.journal.specs.Rollbacks.{newest_of, CanUndo};
 ghost use Rattle.journal.specs.PageStates.{PageState};
-ghost use Rattle.journal.specs.Arrays.{image_of, page_state_of, unless_0, kept_of, IsTable, OwesLess};
+ghost use Rattle.journal.specs.Arrays.{image_of, page_state_of, unless_0, kept_of, LeavesOthers, IsTable, OwesLess};
 ghost use Rattle.journal.specs.Writing.{IsWritten};
 ghost use Rattle.journal.specs.declared.framing.TheConstants.{LONGEST_CHANGE, LONGEST_UNDO};
 ghost use Rattle.journal.specs.Refusals.{IsNotRoom, StepRefused, RefusedFor, PrepareRefused, UpdateRefused, UndoRefused, EndRefused, CellMissing, CellRefused};
 ghost use Rattle.journal.specs.Transactions.{IsFreeFor};
 ghost use Rattle.journal.specs.Holders.{IsHolder};
-ghost use Rattle.journal.specs.State.{IsJournal, update_by, IsUndo, plain_by};
+ghost use Rattle.journal.specs.State.{IsJournal, OthersStay, update_by, IsUndo, plain_by};
 
 use crate::entries::{Head, PageEntry, PendingEntry, TransactionEntry};
 use crate::framing::{compensation_size, put_compensation, put_plain, put_update, update_size};
@@ -207,6 +208,11 @@ pub fn update(
         → IsJournal base run head.old transactions.old pages.old pending.old
         → IsWritten (update_by base run tx page slot (image_of after.now)) (head.old.last + 1)
         out.old out.new size) }
+    ensures others { OnOk result ((base : BasePages) (run : Run)
+        → IsJournal base run head.old transactions.old pages.old pending.old
+        → LeavesOthers tx (take head.old.transactions transactions.old)
+        (take head.old.pending pending.old)
+        (take head.new.transactions transactions.new) (take head.new.pending pending.new)) }
     ensures size { IfOk result (λ size. size ≤ length out.old) }
     ensures short { IfOk result (λ size. size ≤ LONGEST_CHANGE) }
     ensures enough { LONGEST_CHANGE ≤ length out.old → IfErr result IsNotRoom }
@@ -214,6 +220,7 @@ pub fn update(
     ensures updates { OnOk result (head.new.pending ≤ length pending.old) }
     ensures lsn { OnOk result (head.new.last ≡ head.old.last + 1) }
     ensures unforced { head.new.written ≡ head.old.written }
+    ensures next { head.new.next ≡ head.old.next }
     ensures head { OnErr result (head.new ≡ head.old) }
     ensures transactions { OnErr result (transactions.new ≡ transactions.old) }
     ensures pages { OnErr result (pages.new ≡ pages.old) }
@@ -277,6 +284,11 @@ pub fn undo(
         → (r : LogRecord) × IsUndo run tx r
         × IsJournal base (appended run r) head.new transactions.new pages.new pending.new
         × IsWritten r (head.old.last + 1) out.old out.new size) }
+    ensures others { OnOk result ((base : BasePages) (run : Run)
+        → IsJournal base run head.old transactions.old pages.old pending.old
+        → LeavesOthers tx (take head.old.transactions transactions.old)
+        (take head.old.pending pending.old)
+        (take head.new.transactions transactions.new) (take head.new.pending pending.new)) }
     ensures size { IfOk result (λ size. size ≤ length out.old) }
     ensures owes { OnOk result ((base : BasePages) (run : Run)
         → IsJournal base run head.old transactions.old pages.old pending.old
@@ -288,6 +300,7 @@ pub fn undo(
     ensures updates { head.new.pending ≡ head.old.pending }
     ensures lsn { OnOk result (head.new.last ≡ head.old.last + 1) }
     ensures unforced { head.new.written ≡ head.old.written }
+    ensures next { head.new.next ≡ head.old.next }
     ensures head { OnErr result (head.new ≡ head.old) }
     ensures transactions { OnErr result (transactions.new ≡ transactions.old) }
     ensures pages { OnErr result (pages.new ≡ pages.old) }
@@ -353,6 +366,7 @@ pub fn commit(
         (pending : List PendingEntry)
         → IsJournal base run head.old transactions.old pages pending
         → IsWritten (Commit (plain_by run tx)) (head.old.last + 1) out.old out.new size) }
+    ensures others { OnOk result (OthersStay head.old transactions.old head.new transactions.new tx) }
     ensures size { IfOk result (λ size. size ≤ length out.old) }
     ensures owes { OnOk result ((base : BasePages) (run : Run) (pages : List PageEntry)
         (pending : List PendingEntry)
@@ -365,6 +379,7 @@ pub fn commit(
     ensures updates { head.new.pending ≡ head.old.pending }
     ensures lsn { OnOk result (head.new.last ≡ head.old.last + 1) }
     ensures unforced { head.new.written ≡ head.old.written }
+    ensures next { head.new.next ≡ head.old.next }
     ensures head { OnErr result (head.new ≡ head.old) }
     ensures transactions { OnErr result (transactions.new ≡ transactions.old) }
     ensures out { OnErr result (out.new ≡ out.old) }
@@ -409,6 +424,7 @@ pub fn abort(
         (pending : List PendingEntry)
         → IsJournal base run head.old transactions.old pages pending
         → IsWritten (Abort (plain_by run tx)) (head.old.last + 1) out.old out.new size) }
+    ensures others { OnOk result (OthersStay head.old transactions.old head.new transactions.new tx) }
     ensures size { IfOk result (λ size. size ≤ length out.old) }
     ensures owes { OnOk result ((base : BasePages) (run : Run) (pages : List PageEntry)
         (pending : List PendingEntry)
@@ -421,6 +437,7 @@ pub fn abort(
     ensures updates { head.new.pending ≡ head.old.pending }
     ensures lsn { OnOk result (head.new.last ≡ head.old.last + 1) }
     ensures unforced { head.new.written ≡ head.old.written }
+    ensures next { head.new.next ≡ head.old.next }
     ensures head { OnErr result (head.new ≡ head.old) }
     ensures transactions { OnErr result (transactions.new ≡ transactions.old) }
     ensures out { OnErr result (out.new ≡ out.old) }
@@ -463,6 +480,7 @@ pub fn end(
     ensures written { IfOk result (λ size. (base : BasePages) (run : Run) (pages : List PageEntry)
         → IsJournal base run head.old transactions.old pages pending.now
         → IsWritten (End (plain_by run tx)) (head.old.last + 1) out.old out.new size) }
+    ensures others { OnOk result (OthersStay head.old transactions.old head.new transactions.new tx) }
     ensures size { IfOk result (λ size. size ≤ length out.old) }
     ensures owes { OnOk result ((base : BasePages) (run : Run) (pages : List PageEntry)
         → IsJournal base run head.old transactions.old pages pending.now
@@ -474,6 +492,7 @@ pub fn end(
     ensures updates { head.new.pending ≡ head.old.pending }
     ensures lsn { OnOk result (head.new.last ≡ head.old.last + 1) }
     ensures unforced { head.new.written ≡ head.old.written }
+    ensures next { head.new.next ≡ head.old.next }
     ensures head { OnErr result (head.new ≡ head.old) }
     ensures transactions { OnErr result (transactions.new ≡ transactions.old) }
     ensures out { OnErr result (out.new ≡ out.old) }
@@ -524,6 +543,7 @@ pub fn prepare(
         (pending : List PendingEntry)
         → IsJournal base run head.old transactions.old pages pending
         → IsWritten (Prepare (plain_by run tx)) (head.old.last + 1) out.old out.new size) }
+    ensures others { OnOk result (OthersStay head.old transactions.old head.new transactions.new tx) }
     ensures size { IfOk result (λ size. size ≤ length out.old) }
     ensures short { IfOk result (λ size. size ≡ PLAIN_FRAME) }
     ensures enough { PLAIN_FRAME ≤ length out.old → IfErr result IsNotRoom }
@@ -531,6 +551,7 @@ pub fn prepare(
     ensures updates { head.new.pending ≡ head.old.pending }
     ensures lsn { OnOk result (head.new.last ≡ head.old.last + 1) }
     ensures unforced { head.new.written ≡ head.old.written }
+    ensures next { head.new.next ≡ head.old.next }
     ensures head { OnErr result (head.new ≡ head.old) }
     ensures transactions { OnErr result (transactions.new ≡ transactions.old) }
     ensures out { OnErr result (out.new ≡ out.old) }

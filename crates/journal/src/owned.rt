@@ -1,24 +1,24 @@
 //! `Journal`: a journal that owns its arrays, and keeps the frames until they are taken.
 
-ghost use Rattle.std.specs.Prelude.{◌≡◌, ◌≤◌, ◌<◌, ◌+◌, ◌*◌, ◌⊎◌, ℕ, [], ◌++◌, max, length, take, true, false, OnOk, OnErr, IfOk, IfErr, IfSome, Option, None, IsOkUnless};
+ghost use Rattle.std.specs.Prelude.{◌≡◌, ◌≤◌, ◌<◌, ◌+◌, ◌*◌, ◌⊎◌, ℕ, [], ◌++◌, length, take, true, false, All, OnOk, OnErr, IfOk, IfErr, IfSome, Option, None, IsOkUnless};
 ghost use Rattle.page.specs.declared.profile.TheConstants.{TRANSACTIONS};
-ghost use Rattle.log_laws.specs.Records.{Commit, Abort, End, Prepare, last_lsn, history};
-ghost use Rattle.log_laws.specs.Meaning.{BasePages, is_of, has, pending};
+ghost use Rattle.log_laws.specs.Records.{Commit, Abort, End, Prepare, lsn_before, last_lsn, history};
+ghost use Rattle.log_laws.specs.Meaning.{BasePages, pending};
 ghost use Rattle.log_laws.specs.Pages.{base_pages};
 ghost use Rattle.journal.specs.declared.refusal.Refusal.TheVariants.{NoResource, NoSuchLsn};
 ghost use Rattle.journal.specs.declared.framing.TheConstants.{LONGEST_UNDO};
 ghost use Rattle.journal.specs.declared.table.Need.TheVariants.{NotAborting, NotPrepared};
 ghost use Rattle.journal.specs.declared.entries.TransactionEntry.{TransactionEntry};
 ghost use Rattle.journal.specs.declared.entries.PendingEntry.{PendingEntry};
-ghost use Rattle.journal.specs.Arrays.{kept_of, IsTable, AllLive};
+ghost use Rattle.journal.specs.Arrays.{kept_of, Reaches, IsNoted, IsTable, AllLive};
 ghost use Rattle.journal.specs.Runs.{Run, reported, opened, empty_log, MayOpen, count_of, log_of};
 ghost use Rattle.journal.specs.State.{update_by, plain_by};
-ghost use Rattle.journal.specs.PageStates.{IsCurrent};
+ghost use Rattle.journal.specs.PageStates.{IsCurrent, IsUpToDate};
 ghost use Rattle.journal.specs.Rollbacks.{newest_of, CanUndo};
 ghost use Rattle.journal.specs.Opened.{OwnNewRefused, OwnOpenRefused, OpenRefusedFor};
 ghost use Rattle.journal.specs.Holders.{IsHolder};
 ghost use Rattle.journal.specs.Refusals.{CellMissing, CancelRefused, ReportRefused, PageToWriteRefused, StepRefused, OwnBeginRefused, OwnUpdateRefused, OwnPrepareRefused, OwnUndoRefused, OwnEndRefused, OwnCheckpointRefused};
-ghost use Rattle.journal.specs.JournalState.{JournalState, Keeps, Appends, StaysKept, Undoes, TakesCheckpoint, RollsBackTo, RollsBackAll};
+ghost use Rattle.journal.specs.JournalState.{JournalState, Keeps, Appends, StaysKept, LeavesRest, OthersStay, HasBegun, IsGone, HasNoRecord, with_written, Undoes, TakesCheckpoint, RollsBackTo, RollsBackAll};
 
 use crate::checkpoints::LONGEST_CHECKPOINT;
 use crate::entries::{Head, PageEntry, PendingEntry, TransactionEntry};
@@ -43,6 +43,9 @@ const WIDENINGS: usize = 50;
 ///
 /// An accepted update can always be rolled back: the LSNs and the room for that are set aside when the
 /// update is appended.
+///
+/// An operation changes its own transaction alone. Only `frames_taken` removes frames, and only
+/// `log_written` changes the LSN up to which the log is known to be on the disk.
 #[derive(Drop)]
 pub struct Journal {
     head: Head,
@@ -200,9 +203,8 @@ impl Journal {
     /// after it.
     pub fn frames_taken(&mut self)
         ensures kept { StaysKept self.old self.new }
-        ensures none { self.new.frames ≡ [] }
-        ensures taken { self.new.taken ≡ self.old.head.last }
-        ensures head { self.new.head ≡ self.old.head }
+        ensures taken { self.new
+            ≡ record self.old { frames = []; taken = self.old.head.last } }
     {
         self.taken = self.head.last;
         self.length = 0;
@@ -214,7 +216,8 @@ impl Journal {
     /// taken.
     pub fn log_written(&mut self, lsn: u64) -> Result<(), Refusal>
         ensures ok { OnOk result (StaysKept self.old self.new) }
-        ensures written { OnOk result (self.new.head.written ≡ max self.old.head.written lsn) }
+        ensures known { OnOk result (lsn ≤ self.old.taken) }
+        ensures written { OnOk result (self.new ≡ with_written lsn self.old) }
         ensures kept { OnErr result (self.new ≡ self.old) }
         ensures err { IsOkUnless result NoSuchLsn }
         ensures refused { OnErr result (self.old.taken < lsn) }
@@ -269,8 +272,9 @@ impl Journal {
     pub fn page_written(&mut self, number: u32, page_lsn: u64) -> Result<(), Refusal>
         ensures ok { OnOk result ((base : BasePages) (run : Run) → Keeps base run self.old
             → Keeps base (reported run number page_lsn) self.new) }
-        ensures frames { self.new.frames ≡ self.old.frames }
-        ensures head { self.new.head ≡ self.old.head }
+        ensures known { OnOk result (Reaches self.old.pages number page_lsn) }
+        ensures noted { OnOk result (IsNoted self.old.pages self.new.pages number page_lsn) }
+        ensures rest { self.new ≡ record self.old { pages = self.new.pages } }
         ensures kept { OnErr result (self.new ≡ self.old) }
         ensures refused { IfErr result (λ e. (base : BasePages) (run : Run)
             → Keeps base run self.old → ReportRefused base run number page_lsn e) }
@@ -288,6 +292,10 @@ impl Journal {
     pub fn cancel(&mut self, tx: u32) -> Result<(), Refusal>
         ensures ok { OnOk result (StaysKept self.old self.new) }
         ensures frames { self.new.frames ≡ self.old.frames }
+        ensures gone { OnOk result (IsGone self.old self.new tx) }
+        ensures unlogged { OnOk result (HasNoRecord self.old tx) }
+        ensures others { OnOk result (OthersStay self.old self.new tx) }
+        ensures rest { LeavesRest self.old self.new }
         ensures kept { OnErr result (self.new ≡ self.old) }
         ensures refused { IfErr result (λ e. (base : BasePages) (run : Run)
             → Keeps base run self.old
@@ -298,7 +306,7 @@ impl Journal {
     }
 
     /// Opens the journal of a new log, which begins in this way and has no record. The pages of the store
-    /// become the base pages of the log, and are on the disk.
+    /// become the base pages of the log. They are on the disk, and so is the log, up to its base LSN.
     ///
     /// Errors:
     /// - HasMaster: the store's master is not 0, so it names a checkpoint of another log.
@@ -308,6 +316,8 @@ impl Journal {
     pub fn new(alloc: Global, begins: LogStart, store: &Store) -> Result<Journal, Refusal>
         ensures ok { IfOk result (Keeps (base_pages store.now.pages)
             (opened (empty_log begins) store.now)) }
+        ensures written { IfOk result (λ j. j.head.written ≡ lsn_before begins) }
+        ensures unused { IfOk result (λ j. j.transactions ≡ []) }
         ensures none { IfOk result (λ j. j.frames ≡ []) }
         ensures no_master { OnOk result (store.now.master ≡ 0) }
         ensures refused { IfErr result (OwnNewRefused begins store.now) }
@@ -336,6 +346,8 @@ impl Journal {
         requires { 0 < room }
         ensures ok { IfOk result (λ j. (base : BasePages) → MayOpen base log.now store.now
             → Keeps base (opened log.now store.now) j) }
+        ensures written { IfOk result (λ j. j.head.written ≡ last_lsn (history log.now)) }
+        ensures current { OnOk result (All (IsUpToDate (history log.now)) store.now.pages) }
         ensures none { IfOk result (λ j. j.frames ≡ []) }
         ensures refused { IfErr result (λ e. (base : BasePages) → MayOpen base log.now store.now
             → OwnOpenRefused log.now store.now room e) }
@@ -360,7 +372,8 @@ impl Journal {
     }
 
     /// Opens the journal that continues a log. The log and the store must be lawful, and each page must
-    /// have all that the log made of it: a recovery leaves them like this. Both must be on the disk.
+    /// have all that the log made of it: a recovery leaves them like this. Both must be on the disk, since
+    /// the journal assumes that the whole log is.
     /// Transactions that are unfinished in the log, such as those in doubt, keep their numbers and states,
     /// and hold their cells.
     ///
@@ -375,6 +388,8 @@ impl Journal {
     pub fn open(alloc: Global, log: &Log, store: &Store) -> Result<Journal, Refusal>
         ensures ok { IfOk result (λ j. (base : BasePages) → MayOpen base log.now store.now
             → Keeps base (opened log.now store.now) j) }
+        ensures written { IfOk result (λ j. j.head.written ≡ last_lsn (history log.now)) }
+        ensures current { OnOk result (All (IsUpToDate (history log.now)) store.now.pages) }
         ensures none { IfOk result (λ j. j.frames ≡ []) }
         ensures refused { IfErr result (λ e. (base : BasePages) → MayOpen base log.now store.now
             → OpenRefusedFor log.now store.now e) }
@@ -390,8 +405,8 @@ impl Journal {
         Err(Refusal::NoResource)
     }
 
-    /// A transaction begins. Returns its number, from 1, which no transaction in the log has. No record
-    /// is appended.
+    /// A transaction begins. Returns its number, from 1, which is larger than that of each transaction
+    /// that began before or has a record in the log. No record is appended.
     ///
     /// Errors, after which the journal is unchanged:
     /// - TooManyTransactions: as many transactions are unfinished as a checkpoint can list.
@@ -400,9 +415,14 @@ impl Journal {
     /// - NoResource: memory was refused.
     pub fn begin(&mut self) -> Result<u32, Refusal>
         ensures ok { OnOk result (StaysKept self.old self.new) }
-        ensures fresh { IfOk result (λ tx. (base : BasePages) (run : Run) → Keeps base run self.old
-            → has (is_of tx) (log_of run) ≡ false) }
+        ensures begun { IfOk result (HasBegun self.old self.new) }
+        ensures others { IfOk result (OthersStay self.old self.new) }
+        ensures number { IfOk result (λ tx. tx ≡ self.old.head.next) }
+        ensures next { IfOk result (λ tx. self.new.head.next ≡ tx + 1) }
+        ensures fresh { IfOk result (HasNoRecord self.old) }
         ensures frames { self.new.frames ≡ self.old.frames }
+        ensures unforced { self.new.head.written ≡ self.old.head.written }
+        ensures taken { self.new.taken ≡ self.old.taken }
         ensures kept { OnErr result (self.new ≡ self.old) }
         ensures refused { IfErr result (λ e. (base : BasePages) (run : Run)
             → Keeps base run self.old → OwnBeginRefused self.old.head e) }
@@ -433,6 +453,8 @@ impl Journal {
         ensures ok { OnOk result (Appends self.old self.new
             (λ base run. update_by base run tx page slot after)) }
         ensures lsn { IfOk result (λ lsn. lsn ≡ self.old.head.last + 1) }
+        ensures rest { LeavesRest self.old self.new }
+        ensures others { OnOk result (OthersStay self.old self.new tx) }
         ensures kept { OnErr result (self.new ≡ self.old) }
         ensures refused { IfErr result (λ e. (base : BasePages) (run : Run)
             → Keeps base run self.old → OwnUpdateRefused run tx page slot self.old.head e) }
@@ -474,6 +496,8 @@ impl Journal {
     pub fn undo_last(&mut self, tx: u32) -> Result<u64, Refusal>
         ensures ok { OnOk result (Undoes self.old self.new tx) }
         ensures lsn { IfOk result (λ lsn. lsn ≡ self.old.head.last + 1) }
+        ensures rest { LeavesRest self.old self.new }
+        ensures others { OnOk result (OthersStay self.old self.new tx) }
         ensures kept { OnErr result (self.new ≡ self.old) }
         ensures refused { IfErr result (λ e. (base : BasePages) (run : Run)
             → Keeps base run self.old → OwnUndoRefused run tx e) }
@@ -514,6 +538,8 @@ impl Journal {
     /// - Forbidden: the transaction is prepared.
     pub fn roll_back_to(&mut self, tx: u32, savepoint: u64) -> Result<(), Refusal>
         ensures ok { OnOk result (RollsBackTo self.old self.new tx savepoint) }
+        ensures rest { LeavesRest self.old self.new }
+        ensures others { OnOk result (OthersStay self.old self.new tx) }
         ensures kept { OnErr result ((base : BasePages) (run : Run) → Keeps base run self.old
             → self.new ≡ self.old) }
         ensures refused { IfErr result (λ e. (base : BasePages) (run : Run)
@@ -540,6 +566,8 @@ impl Journal {
     /// - Forbidden: the transaction is prepared: it has to commit or to abort first.
     pub fn roll_back(&mut self, tx: u32) -> Result<u64, Refusal>
         ensures ok { OnOk result (RollsBackAll self.old self.new tx) }
+        ensures rest { LeavesRest self.old self.new }
+        ensures others { OnOk result (OthersStay self.old self.new tx) }
         ensures kept { OnErr result ((base : BasePages) (run : Run) → Keeps base run self.old
             → self.new ≡ self.old) }
         ensures refused { IfErr result (λ e. (base : BasePages) (run : Run)
@@ -563,6 +591,8 @@ impl Journal {
         ensures ok { OnOk result (Appends self.old self.new
             (λ base run. Commit (plain_by run tx))) }
         ensures lsn { IfOk result (λ lsn. lsn ≡ self.old.head.last + 1) }
+        ensures rest { LeavesRest self.old self.new }
+        ensures others { OnOk result (OthersStay self.old self.new tx) }
         ensures kept { OnErr result (self.new ≡ self.old) }
         ensures refused { IfErr result (λ e. (base : BasePages) (run : Run)
             → Keeps base run self.old → StepRefused NotAborting run tx e) }
@@ -588,6 +618,8 @@ impl Journal {
     pub fn abort(&mut self, tx: u32) -> Result<u64, Refusal>
         ensures ok { OnOk result (Appends self.old self.new (λ base run. Abort (plain_by run tx))) }
         ensures lsn { IfOk result (λ lsn. lsn ≡ self.old.head.last + 1) }
+        ensures rest { LeavesRest self.old self.new }
+        ensures others { OnOk result (OthersStay self.old self.new tx) }
         ensures kept { OnErr result (self.new ≡ self.old) }
         ensures refused { IfErr result (λ e. (base : BasePages) (run : Run)
             → Keeps base run self.old → StepRefused NotAborting run tx e) }
@@ -613,6 +645,8 @@ impl Journal {
     pub fn end(&mut self, tx: u32) -> Result<u64, Refusal>
         ensures ok { OnOk result (Appends self.old self.new (λ base run. End (plain_by run tx))) }
         ensures lsn { IfOk result (λ lsn. lsn ≡ self.old.head.last + 1) }
+        ensures rest { LeavesRest self.old self.new }
+        ensures others { OnOk result (OthersStay self.old self.new tx) }
         ensures kept { OnErr result (self.new ≡ self.old) }
         ensures refused { IfErr result (λ e. (base : BasePages) (run : Run)
             → Keeps base run self.old → OwnEndRefused run tx e) }
@@ -642,6 +676,8 @@ impl Journal {
         ensures ok { OnOk result (Appends self.old self.new
             (λ base run. Prepare (plain_by run tx))) }
         ensures lsn { IfOk result (λ lsn. lsn ≡ self.old.head.last + 1) }
+        ensures rest { LeavesRest self.old self.new }
+        ensures others { OnOk result (OthersStay self.old self.new tx) }
         ensures kept { OnErr result (self.new ≡ self.old) }
         ensures refused { IfErr result (λ e. (base : BasePages) (run : Run)
             → Keeps base run self.old → OwnPrepareRefused run tx self.old.head e) }
@@ -674,6 +710,10 @@ impl Journal {
         ensures ok { OnOk result (TakesCheckpoint self.old self.new) }
         ensures begin { IfOk result (λ lsns. lsns.0 ≡ self.old.head.last + 1) }
         ensures end { IfOk result (λ lsns. lsns.1 ≡ self.old.head.last + 2) }
+        ensures rest { LeavesRest self.old self.new }
+        ensures transactions { self.new.transactions ≡ self.old.transactions }
+        ensures pending { self.new.pending ≡ self.old.pending }
+        ensures pages { self.new.pages ≡ self.old.pages }
         ensures kept { OnErr result (self.new ≡ self.old) }
         ensures refused { IfErr result (λ e. (base : BasePages) (run : Run)
             → Keeps base run self.old → OwnCheckpointRefused self.old.head e) }

@@ -100,7 +100,8 @@ impl Engine {
             return Ok(());
         }
         let tx = self.journal.begin()?;
-        check(!self.model.has_record(tx), "a new number")?;
+        let is_new = self.model.state(tx).is_none() && !self.model.has_record(tx);
+        check(is_new, "a new number")?;
         self.model.begin(tx)?;
         Ok(())
     }

@@ -86,6 +86,17 @@ fn cancels_what_has_no_record(rt: HostRuntime) -> Result<(), Fail> {
 }
 
 #[test]
+fn begins_two_transactions(rt: HostRuntime) -> Result<(), Fail> {
+    let mut journal = new_journal(rt.alloc())?;
+    let first = journal.begin().map_err(fault_of)?;
+    let second = journal.begin().map_err(fault_of)?;
+    check_all(&[
+        (second != first, "two numbers"),
+        (journal.unfinished().len() == 2, "two transactions"),
+    ])
+}
+
+#[test]
 fn new_refuses_a_master(rt: HostRuntime) -> Result<(), Fail> {
     let store = empty_store(rt.alloc(), 1)?;
     let opened = Journal::new(rt.alloc(), LogStart::Version1, &store);
@@ -157,6 +168,25 @@ fn open_refuses_an_older_page(rt: HostRuntime) -> Result<(), Fail> {
         refused(opened) == Some(Refusal::PageBehind(0)),
         "an older page",
     )
+}
+
+#[test]
+fn a_report_waits_for_its_frames(rt: HostRuntime) -> Result<(), Fail> {
+    let mut journal = new_journal(rt.alloc())?;
+    let tx = journal.begin().map_err(fault_of)?;
+    let lsn = journal
+        .update(tx, 0, 0, Value::new(b"a"))
+        .map_err(fault_of)?;
+    let early = journal.log_written(lsn).err();
+    let waits = unwritten(&journal, 0);
+    journal.frames_taken();
+    let taken = journal.log_written(lsn).is_ok();
+    check_all(&[
+        (early == Some(Refusal::NoSuchLsn), "a frame not taken"),
+        (waits == Some(Refusal::LogNotWritten(lsn)), "page 0 before"),
+        (taken, "a frame taken"),
+        (unwritten(&journal, 0).is_none(), "page 0 after"),
+    ])
 }
 
 #[test]

@@ -11,7 +11,7 @@ use Rattle.journal.specs.Runs.{log_of}
 use Rattle.journal.specs.Arrays.{state_of, kept_of, page_state_of, IsTable}
 use Rattle.journal.specs.Writing.{IsWritten}
 use Rattle.journal.proofs.Refused.{entry_refused}
-use Rattle.journal.proofs.Journals.{no_entry, aborted, aborted_owes, kept_is, owes}
+use Rattle.journal.proofs.Journals.{no_entry, aborted, aborted_owes, turned_others, kept_is, owes}
 use Rattle.journal.proofs.operations.abort.Goals as goal
 
 pub returns-clause-ok : goal.returns-clause-ok
@@ -74,3 +74,12 @@ returns-clause-owes c = λ base run pages pending h.
     let found : (get_or (take c.args.head.now.transactions ts) place no_entry).tx ≡ c.args.tx = subst (λ (xs : List TransactionEntry). (get_or xs place no_entry).tx ≡ c.args.tx) e (c.in_ok-place.ensures.found no_entry) in
     let allowed = subst (λ (xs : List TransactionEntry). allows NotAborting (state_of (get_or xs place no_entry).state) ≡ true) e (c.in_ok-place.ensures.allowed no_entry) in
     aborted_owes base run c.args.head.now ts pages pending h c.args.tx place within found c.in_ok-lsn.lsn c.in_ok-lsn.ensures.ok c.in_ok-lsn.ensures.few c.note_state.new.transactions (c.note_state.ensures no_entry) allowed
+
+pub returns-clause-others : goal.returns-clause-others
+returns-clause-others c = λ base run pages pending h.
+    let ts : List TransactionEntry = c.args.transactions.now in
+    let place : ℕ = c.in_ok-place.place in
+    let e : take c.in_ok-count.count ts ≡ take c.args.head.now.transactions ts = ap (λ n. take n ts) c.in_ok-count.ensures.ok in
+    let within : place < length (take c.args.head.now.transactions ts) = subst (λ (xs : List TransactionEntry). place < length xs) e c.in_ok-place.ensures.within in
+    let found : (get_or (take c.args.head.now.transactions ts) place no_entry).tx ≡ c.args.tx = subst (λ (xs : List TransactionEntry). (get_or xs place no_entry).tx ≡ c.args.tx) e (c.in_ok-place.ensures.found no_entry) in
+    turned_others base run c.args.head.now ts pages pending h c.args.tx place within found 1 c.in_ok-lsn.lsn c.note_state.new.transactions (c.note_state.ensures no_entry)

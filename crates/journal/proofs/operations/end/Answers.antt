@@ -15,6 +15,7 @@ use Rattle.journal.specs.Arrays.{bound_of, state_of, kept_of, page_state_of, IsT
 use Rattle.journal.specs.Writing.{IsWritten}
 use Rattle.journal.proofs.Refused.{end_refused}
 use Rattle.journal.proofs.Journals.{no_entry, no_update, ended, left_owes, kept_is, owes, no_pending, still}
+use Rattle.journal.proofs.Canceled.{others_kept}
 use Rattle.journal.proofs.operations.end.Goals as goal
 
 none_from : {X : Type 0} (o : Option X) → is_some o ≡ false → o ≡ None
@@ -110,3 +111,13 @@ returns-clause-owes c = λ base run pages h.
     let found : (get_or (take c.args.head.now.transactions ts) place no_entry).tx ≡ c.args.tx = subst (λ (xs : List TransactionEntry). (get_or xs place no_entry).tx ≡ c.args.tx) e (c.in_ok-place.ensures.found no_entry) in
     left_owes base run c.args.head.now ts pages c.args.pending.now h c.args.tx place within found c.in_ok-lsn.lsn c.in_ok-lsn.ensures.ok c.in_ok-lsn.ensures.few c.finish.new.transactions (c.in_ok-count.count - 1) (ap (λ n. n - 1) c.in_ok-count.ensures.ok)
     (c.finish.ensures ∙ ap (λ n. remove (take n ts) place) c.in_ok-count.ensures.ok) c.finish.auto.transactions
+
+pub returns-clause-others : goal.returns-clause-others
+returns-clause-others c = λ base run pages pending h.
+    let ts : List TransactionEntry = c.args.transactions.now in
+    let place : ℕ = c.in_ok-place.place in
+    let e : take c.in_ok-count.count ts ≡ take c.args.head.now.transactions ts = ap (λ n. take n ts) c.in_ok-count.ensures.ok in
+    let within : place < length (take c.args.head.now.transactions ts) = subst (λ (xs : List TransactionEntry). place < length xs) e c.in_ok-place.ensures.within in
+    let found : (get_or (take c.args.head.now.transactions ts) place no_entry).tx ≡ c.args.tx = subst (λ (xs : List TransactionEntry). (get_or xs place no_entry).tx ≡ c.args.tx) e (c.in_ok-place.ensures.found no_entry) in
+    others_kept base run c.args.head.now ts pages pending h c.args.tx place within found c.finish.new.transactions (c.in_ok-count.count - 1) (ap (λ n. n - 1) c.in_ok-count.ensures.ok)
+    (c.finish.ensures ∙ ap (λ n. remove (take n ts) place) c.in_ok-count.ensures.ok)

@@ -11,7 +11,7 @@ use Rattle.journal.specs.Runs.{log_of}
 use Rattle.journal.specs.Arrays.{state_of, kept_of, page_state_of, IsTable}
 use Rattle.journal.specs.Writing.{IsWritten}
 use Rattle.journal.proofs.Refused.{prepare_refused}
-use Rattle.journal.proofs.Journals.{no_entry, prepared, kept_is}
+use Rattle.journal.proofs.Journals.{no_entry, prepared, turned_others, kept_is}
 use Rattle.journal.proofs.operations.prepare.Goals as goal
 
 pub returns-clause-ok : goal.returns-clause-ok
@@ -52,3 +52,12 @@ returns-in_err-place-clause-refused c =
     let table = subst IsTable (sym e) h.arrays.used.table in
     prepare_refused base run c.args.head.now.last c.args.head.now.next _ (map page_state_of pages) h.holds c.args.tx c.args.head.now (length c.args.out.now) c.in_err-place.field-0.0
     (subst (λ (zs : List TransactionEntry). EntryRefused Working (kept_of zs xs) c.args.tx c.in_err-place.field-0.0) e (c.in_err-place.ensures.err xs table)))
+
+pub returns-clause-others : goal.returns-clause-others
+returns-clause-others c = λ base run pages pending h.
+    let ts : List TransactionEntry = c.args.transactions.now in
+    let place : ℕ = c.in_ok-place.place in
+    let e : take c.in_ok-count.count ts ≡ take c.args.head.now.transactions ts = ap (λ n. take n ts) c.in_ok-count.ensures.ok in
+    let within : place < length (take c.args.head.now.transactions ts) = subst (λ (xs : List TransactionEntry). place < length xs) e c.in_ok-place.ensures.within in
+    let found : (get_or (take c.args.head.now.transactions ts) place no_entry).tx ≡ c.args.tx = subst (λ (xs : List TransactionEntry). (get_or xs place no_entry).tx ≡ c.args.tx) e (c.in_ok-place.ensures.found no_entry) in
+    turned_others base run c.args.head.now ts pages pending h c.args.tx place within found 2 c.in_ok-lsn.lsn c.note_state.new.transactions (c.note_state.ensures no_entry)

@@ -11,7 +11,7 @@ use Rattle.journal.specs.Runs.{log_of}
 use Rattle.journal.specs.Arrays.{bound_of, state_of, kept_of, page_state_of, image_of, IsTable}
 use Rattle.journal.specs.Writing.{IsWritten}
 use Rattle.journal.proofs.Refused.{undo_refused, nothing_pending}
-use Rattle.journal.proofs.Journals.{no_entry, no_update, kept_is, owes, no_pending, its_cell, undo_record, undone_is, undone_owes, its_last}
+use Rattle.journal.proofs.Journals.{no_entry, no_update, kept_is, owes, no_pending, its_cell, undo_record, undone_is, undone_owes, undone_others, its_last}
 use Rattle.journal.proofs.operations.undo.Goals as goal
 
 pub returns-in_err-place-clause-refused : goal.returns-in_err-place-clause-refused
@@ -122,4 +122,16 @@ returns-clause-owes c = λ base run h.
     let below : c.bound-below.result ≡ bound_of (get_or (take c.args.head.now.transactions ts) place no_entry) c.args.head.now.pending =
     c.bound-below.ensures ∙ ap (λ (xs : List TransactionEntry). bound_of (get_or xs place no_entry) c.args.head.now.pending) e in
     undone_owes base run c.args.head.now ts c.args.pages.now c.args.pending.now h c.args.tx place within found c.bound-below.result below c.in-Some.top c.in-Some.ensures.within (c.in-Some.ensures.found no_update) c.in-Some.ensures.above
+    c.in_ok-lsn.lsn c.in_ok-lsn.ensures.ok c.in_ok-lsn.ensures.few c.note_undo.new.transactions c.note_undo.new.pending c.change_cell.new.pages (c.note_undo.ensures.transaction no_entry) (c.note_undo.ensures.pending no_update)
+
+pub returns-clause-others : goal.returns-clause-others
+returns-clause-others c = λ base run h.
+    let ts : List TransactionEntry = c.args.transactions.now in
+    let place : ℕ = c.in_ok-place.place in
+    let e : take c.in_ok-count.count ts ≡ take c.args.head.now.transactions ts = ap (λ n. take n ts) c.in_ok-count.ensures.ok in
+    let within : place < length (take c.args.head.now.transactions ts) = subst (λ (xs : List TransactionEntry). place < length xs) e c.in_ok-place.ensures.within in
+    let found : (get_or (take c.args.head.now.transactions ts) place no_entry).tx ≡ c.args.tx = subst (λ (xs : List TransactionEntry). (get_or xs place no_entry).tx ≡ c.args.tx) e (c.in_ok-place.ensures.found no_entry) in
+    let below : c.bound-below.result ≡ bound_of (get_or (take c.args.head.now.transactions ts) place no_entry) c.args.head.now.pending =
+    c.bound-below.ensures ∙ ap (λ (xs : List TransactionEntry). bound_of (get_or xs place no_entry) c.args.head.now.pending) e in
+    undone_others base run c.args.head.now ts c.args.pages.now c.args.pending.now h c.args.tx place within found c.bound-below.result below c.in-Some.top c.in-Some.ensures.within (c.in-Some.ensures.found no_update) c.in-Some.ensures.above
     c.in_ok-lsn.lsn c.in_ok-lsn.ensures.ok c.in_ok-lsn.ensures.few c.note_undo.new.transactions c.note_undo.new.pending c.change_cell.new.pages (c.note_undo.ensures.transaction no_entry) (c.note_undo.ensures.pending no_update)

@@ -15,7 +15,7 @@ use Rattle.journal.specs.Arrays.{state_of, kept_of, page_state_of, image_of, IsT
 use Rattle.journal.specs.Writing.{IsWritten}
 use Rattle.journal.specs.State.{update_by}
 use Rattle.journal.proofs.Refused.{update_refused, cell_refused}
-use Rattle.journal.proofs.Journals.{no_entry, kept_is, updated_is, value_is}
+use Rattle.journal.proofs.Journals.{no_entry, kept_is, updated_is, updated_others, value_is}
 use Rattle.journal.proofs.operations.update.Goals as goal
 
 pub returns-in_err-place-clause-refused : goal.returns-in_err-place-clause-refused
@@ -96,3 +96,20 @@ returns-in_err-room_for-clause-refused c =
     omega (arith, c.update_size.ensures.size, same, length-append (image (replay base (log_of run) c.args.page c.args.slot)) (image (image_of c.args.after.now))) in
     subst (UpdateRefused run c.args.tx c.args.page c.args.slot c.args.after.now (length (frame (update_by base run c.args.tx c.args.page c.args.slot (image_of c.args.after.now)) (c.args.head.now.last + 1))) (length c.args.out.now) c.args.head.now ts c.args.pending.now)
     (sym c.in_err-room_for.ensures.err) (size, omega (arith, short, size)))
+
+pub returns-clause-others : goal.returns-clause-others
+returns-clause-others c = λ base run h.
+    let ts : List TransactionEntry = c.args.transactions.now in
+    let place : ℕ = c.in_ok-place.place in
+    let e : take c.in_ok-count.count ts ≡ take c.args.head.now.transactions ts = ap (λ n. take n ts) c.in_ok-count.ensures.ok in
+    let within : place < length (take c.args.head.now.transactions ts) = subst (λ (xs : List TransactionEntry). place < length xs) e c.in_ok-place.ensures.within in
+    let found : (get_or (take c.args.head.now.transactions ts) place no_entry).tx ≡ c.args.tx = subst (λ (xs : List TransactionEntry). (get_or xs place no_entry).tx ≡ c.args.tx) e (c.in_ok-place.ensures.found no_entry) in
+    let ps : List PendingEntry = c.args.pending.now in
+    let n : ℕ = c.args.head.now.transactions in
+    let prev : (get_or (take c.in_ok-count.count ts) place no_entry).last ≡ (get_or (take n ts) place no_entry).last = ap (λ (xs : List TransactionEntry). (get_or xs place no_entry).last) e in
+    let made : IsRoomMade (take n ts) c.args.head.now.pending c.in_ok-top.top ps c.room_for_one.new.pending =
+    subst (λ (zs : List TransactionEntry). IsRoomMade zs c.args.head.now.pending c.in_ok-top.top ps c.room_for_one.new.pending) e (c.in_ok-top.ensures.kept (subst IsTable (sym e) h.arrays.used.table)) in
+    let pushed = c.note_update.ensures.pending ∙ ap (λ k. set c.room_for_one.new.pending c.in_ok-top.top (record { lsn = c.in_ok-lsn.lsn; prev = k; tx = c.args.tx; page = c.args.page; slot = c.args.slot; before = c.in_ok-before.before.now })) prev in
+    updated_others base run c.args.head.now ts c.args.pages.now ps h c.args.tx place within found c.in_ok-top.top c.room_for_one.new.pending c.in_ok-top.ensures.within c.room_for_one.auto.pending made
+    c.in_ok-lsn.lsn c.in_ok-lsn.ensures.ok c.in_ok-lsn.ensures.few c.args.page c.args.slot c.in_ok-before.before.now c.args.after.now c.note_update.new.transactions c.note_update.new.pending c.change_cell.new.pages
+    (c.note_update.ensures.transaction no_entry) pushed
