@@ -1,5 +1,5 @@
 -- What the calls on a journal promise, for each run of which the arrays of their caller are the journal (own).
-use Rattle.std.specs.Prelude.{◌≡◌, ◌<◌, ◌≤◌, ℕ, true, false, is_some, None, List, length, take}
+use Rattle.std.specs.Prelude.{◌≡◌, ◌<◌, ◌≤◌, ℕ, true, false, is_some, None, List, length, take, max}
 use Rattle.log_laws.specs.Meaning.{BasePages, is_of, has, last_on, pending}
 use Rattle.journal.specs.declared.table.Need.TheVariants.{NotPrepared}
 use Rattle.journal.specs.declared.entries.Head.{Head}
@@ -7,10 +7,10 @@ use Rattle.journal.specs.declared.entries.TransactionEntry.{TransactionEntry}
 use Rattle.journal.specs.declared.entries.PendingEntry.{PendingEntry}
 use Rattle.journal.specs.declared.entries.PageEntry.{PageEntry}
 use Rattle.journal.specs.Runs.{Run, reported, count_of, log_of}
-use Rattle.journal.specs.Arrays.{kept_of, LeavesOthers}
+use Rattle.journal.specs.Arrays.{kept_of}
 use Rattle.journal.specs.Rollbacks.{newest_of}
 use Rattle.journal.specs.Refusals.{BeginRefused, CancelRefused, StepRefused, ReportRefused, LogWrittenRefused, PageToWriteRefused}
-use Rattle.journal.specs.State.{IsJournal}
+use Rattle.journal.specs.State.{IsJournal, OthersStay}
 use Rattle.aries_c.specs.declared.fault.Fault.{Fault as Told}
 use Rattle.aries_c.specs.Fault.{OnDone, OnFailed}
 use Rattle.aries_c.specs.Journaling.{Refuses}
@@ -27,10 +27,12 @@ HasBegun head ts after after_ts tx told = OnDone told (
     → is_some (kept_of (take after.transactions after_ts) (take after.pending ps) tx) ≡ true)
 
 -- what is kept of each transaction but this one is as it was
-abbrev pub OthersStay : Head → List TransactionEntry → Head → List TransactionEntry → (tx : ℕ) → Told → Type 0
-OthersStay head ts after after_ts tx told = OnDone told (
-    (base : BasePages) (run : Run) (pages : List PageEntry) (ps : List PendingEntry) → IsJournal base run head ts pages ps
-    → LeavesOthers tx (take head.transactions ts) (take head.pending ps) (take after.transactions after_ts) (take after.pending ps))
+abbrev pub LeavesRest : Head → List TransactionEntry → Head → List TransactionEntry → (tx : ℕ) → Told → Type 0
+LeavesRest head ts after after_ts tx told = OnDone told (OthersStay head ts after after_ts tx)
+
+-- the log is known to be on the disk up to this LSN at least, and nothing else changed
+abbrev pub IsForced : Head → Head → (lsn : ℕ) → Type 0
+IsForced head after lsn = after ≡ record head { written = max head.written lsn }
 
 -- no record of the log has this number
 abbrev pub IsFresh : Head → List TransactionEntry → (tx : ℕ) → Told → Type 0

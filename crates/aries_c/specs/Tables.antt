@@ -8,7 +8,9 @@ use Rattle.wal.specs.Spelling.{frame, Fits}
 use Rattle.aries_c.specs.declared.checkpoint.Entry.{Entry as Told}
 use Rattle.aries_c.specs.declared.checkpoint.DirtyPage.{DirtyPage}
 use Rattle.aries_c.specs.declared.checkpoint.Tables.{Tables}
-use Rattle.aries_c.specs.Writing.{HasNoText}
+use Rattle.aries_c.specs.declared.fault.Fault.{Fault}
+use Rattle.aries_c.specs.Fault.{OnDone, OnNoRoom}
+use Rattle.aries_c.specs.Writing.{HasNoText, Wrote, LacksRoom}
 
 -- the number of a state
 abbrev pub state_number : State → ℕ
@@ -72,6 +74,13 @@ abbrev pub IsEndFrame : (lsn begin : ℕ) → List Told → List DirtyPage → L
 IsEndFrame lsn begin entries pages text =
     (transactions : List TableEntry) × (dirty : List (ℕ × ℕ)) × (map told_entry transactions ≡ entries) × (map told_dirty dirty ≡ pages)
     × Fits (CheckpointEnd begin transactions dirty) × (0 < lsn) × (text ≡ frame (CheckpointEnd begin transactions dirty) lsn)
+
+-- such a frame was written, or the buffer is too short for one
+abbrev pub WritesEndFrame : (lsn begin : ℕ) → List Told → List DirtyPage → (before after : List ℕ) → (length_told : ℕ) → Fault → Type 0
+WritesEndFrame lsn begin entries pages before after length_told told = OnDone told (Wrote (IsEndFrame lsn begin entries pages) before after length_told)
+
+abbrev pub LacksEndRoom : (lsn begin : ℕ) → List Told → List DirtyPage → (before : List ℕ) → (length_told : ℕ) → Fault → Type 0
+LacksEndRoom lsn begin entries pages before length_told told = OnNoRoom told (LacksRoom (IsEndFrame lsn begin entries pages) before length_told)
 
 -- they give no frame
 abbrev pub HasNoEndFrame : (lsn begin : ℕ) → List Told → List DirtyPage → Type 0
