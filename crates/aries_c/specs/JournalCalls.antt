@@ -27,8 +27,8 @@ HasBegun head ts after after_ts tx told = OnDone told (
     → is_some (kept_of (take after.transactions after_ts) (take after.pending ps) tx) ≡ true)
 
 -- what is kept of each transaction but this one is as it was
-abbrev pub LeavesRest : Head → List TransactionEntry → Head → List TransactionEntry → (tx : ℕ) → Told → Type 0
-LeavesRest head ts after after_ts tx told = OnDone told (OthersStay head ts after after_ts tx)
+abbrev pub Others : Head → List TransactionEntry → Head → List TransactionEntry → (tx : ℕ) → Told → Type 0
+Others head ts after after_ts tx told = OnDone told (OthersStay head ts after after_ts tx)
 
 -- the log is known to be on the disk up to this LSN at least, and nothing else changed
 abbrev pub IsForced : Head → Head → (lsn : ℕ) → Type 0

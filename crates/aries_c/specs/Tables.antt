@@ -76,8 +76,8 @@ IsEndFrame lsn begin entries pages text =
     × Fits (CheckpointEnd begin transactions dirty) × (0 < lsn) × (text ≡ frame (CheckpointEnd begin transactions dirty) lsn)
 
 -- such a frame was written, or the buffer is too short for one
-abbrev pub WritesEndFrame : (lsn begin : ℕ) → List Told → List DirtyPage → (before after : List ℕ) → (length_told : ℕ) → Fault → Type 0
-WritesEndFrame lsn begin entries pages before after length_told told = OnDone told (Wrote (IsEndFrame lsn begin entries pages) before after length_told)
+abbrev pub WritesEnd : (lsn begin : ℕ) → List Told → List DirtyPage → (before after : List ℕ) → (length_told : ℕ) → Fault → Type 0
+WritesEnd lsn begin entries pages before after length_told told = OnDone told (Wrote (IsEndFrame lsn begin entries pages) before after length_told)
 
 abbrev pub LacksEndRoom : (lsn begin : ℕ) → List Told → List DirtyPage → (before : List ℕ) → (length_told : ℕ) → Fault → Type 0
 LacksEndRoom lsn begin entries pages before length_told told = OnNoRoom told (LacksRoom (IsEndFrame lsn begin entries pages) before length_told)

@@ -6,7 +6,7 @@ ghost use Rattle.wal.specs.Content.{content};
 ghost use Rattle.aries_c.specs.Fault.{IsMemoryOrNotWritable, OnDone, OnFailed, OnNoRoom, OnOtherFailure, OnNotWritable};
 ghost use Rattle.aries_c.specs.LogHeader.{IsLogHeader};
 ghost use Rattle.aries_c.specs.Record.{IsFrame};
-ghost use Rattle.aries_c.specs.Tables.{IsEndFrame, WritesEndFrame, LacksEndRoom, HasNoEndFrame};
+ghost use Rattle.aries_c.specs.Tables.{IsEndFrame, WritesEnd, LacksEndRoom, HasNoEndFrame};
 ghost use Rattle.aries_c.specs.Writing.{Wrote, LacksRoom, IsAnswer, IsAnswerOrMemory, HasNoText};
 
 use crate::checkpoint::{dirty_named, entries_named};
@@ -113,7 +113,7 @@ pub extern "C" fn aries_write_checkpoint_end(
     out: &mut [u8],
     told: &mut usize,
 ) -> Fault
-    ensures written { WritesEndFrame lsn begin transactions.now dirty.now out.old out.new told.new
+    ensures written { WritesEnd lsn begin transactions.now dirty.now out.old out.new told.new
         result }
     ensures no_room { LacksEndRoom lsn begin transactions.now dirty.now out.old told.new result }
     ensures not_writable { OnNotWritable result
