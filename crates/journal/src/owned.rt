@@ -203,8 +203,7 @@ impl Journal {
     /// after it.
     pub fn frames_taken(&mut self)
         ensures kept { StaysKept self.old self.new }
-        ensures taken { self.new
-            ≡ record self.old { frames = []; taken = self.old.head.last } }
+        ensures taken { self.new ≡ record self.old { frames = []; taken = self.old.head.last } }
     {
         self.taken = self.head.last;
         self.length = 0;
