@@ -1,16 +1,15 @@
 //! The checkpoints of a journal, and what it gets to know of the disk.
 
-ghost use Rattle.std.specs.Prelude.{◌≡◌, ◌≤◌, ◌<◌, ◌+◌, ℕ, List, max, length, slice_index_or};
+ghost use Rattle.std.specs.Prelude.{◌≡◌, ◌≤◌, ◌+◌, ℕ, List, length};
 ghost use Rattle.log_laws.specs.Records.{TableEntry, CheckpointBegin};
 ghost use Rattle.log_laws.specs.Meaning.{BasePages};
 ghost use Rattle.journal.specs.declared.entries.PendingEntry.{PendingEntry};
-ghost use Rattle.journal.specs.declared.entries.PageEntry.{PageEntry};
-ghost use Rattle.journal.specs.Arrays.{IsNoted};
+ghost use Rattle.journal.specs.Arrays.{Reaches, IsNoted};
 ghost use Rattle.journal.specs.Runs.{Run, appended, AreTrueTables};
 ghost use Rattle.journal.specs.Writing.{Begins};
 ghost use Rattle.journal.specs.Taken.{checkpoint_text, run_taken, CheckpointRefused};
 ghost use Rattle.journal.specs.declared.checkpoints.TheConstants.{LONGEST_CHECKPOINT};
-ghost use Rattle.journal.specs.State.{IsJournal};
+ghost use Rattle.journal.specs.State.{IsJournal, with_written};
 ghost use Rattle.aries_c.specs.Fault.{OnDone, OnFailed};
 ghost use Rattle.aries_c.specs.Journaling.{RefusesFrame};
 ghost use Rattle.aries_c.specs.JournalCalls.{StaysJournal, LogWrittenFails, IsLogAhead, PageToWriteFails, Reports, ReportFails};
@@ -60,8 +59,7 @@ pub extern "C" fn aries_journal_checkpoint(
 pub extern "C" fn aries_journal_log_written(journal: &mut Head, lsn: u64) -> Fault
     ensures ok { StaysJournal journal.old journal.new }
     ensures known { OnDone result (lsn ≤ journal.old.last) }
-    ensures written { OnDone result (journal.new
-        ≡ record journal.old { written = max journal.old.written lsn }) }
+    ensures written { OnDone result (journal.new ≡ with_written lsn journal.old) }
     ensures journal { OnFailed result (journal.new ≡ journal.old) }
     ensures refused { LogWrittenFails journal.old lsn result }
 {
@@ -91,9 +89,7 @@ pub extern "C" fn aries_journal_page_written(
     page_lsn: u64,
 ) -> Fault
     ensures ok { Reports pages.old pages.new page page_lsn result }
-    ensures there { OnDone result (page < length pages.old) }
-    ensures known { OnDone result ((d : PageEntry)
-        → page_lsn ≤ (slice_index_or pages.old page d).page.lsn) }
+    ensures known { OnDone result (Reaches pages.old page page_lsn) }
     ensures noted { OnDone result (IsNoted pages.old pages.new page page_lsn) }
     ensures pages { OnFailed result (pages.new ≡ pages.old) }
     ensures refused { ReportFails pages.old page page_lsn result }
