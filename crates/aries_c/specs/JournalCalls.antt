@@ -1,6 +1,6 @@
 -- What the calls on a journal promise, for each run of which the arrays of their caller are the journal (own).
-use Rattle.std.specs.Prelude.{◌≡◌, ◌<◌, ◌≤◌, ℕ, true, false, is_some, None, List, length, take, max}
-use Rattle.log_laws.specs.Meaning.{BasePages, is_of, has, last_on, pending}
+use Rattle.std.specs.Prelude.{◌≡◌, ◌<◌, ◌≤◌, ℕ, List, length, take}
+use Rattle.log_laws.specs.Meaning.{BasePages, last_on, pending}
 use Rattle.journal.specs.declared.table.Need.TheVariants.{NotPrepared}
 use Rattle.journal.specs.declared.entries.Head.{Head}
 use Rattle.journal.specs.declared.entries.TransactionEntry.{TransactionEntry}
@@ -10,7 +10,7 @@ use Rattle.journal.specs.Runs.{Run, reported, count_of, log_of}
 use Rattle.journal.specs.Arrays.{kept_of}
 use Rattle.journal.specs.Rollbacks.{newest_of}
 use Rattle.journal.specs.Refusals.{BeginRefused, CancelRefused, StepRefused, ReportRefused, LogWrittenRefused, PageToWriteRefused}
-use Rattle.journal.specs.State.{IsJournal, OthersStay}
+use Rattle.journal.specs.State.{IsJournal, HasBegun as Begins, IsGone as Leaves, HasNoRecord, OthersStay}
 use Rattle.aries_c.specs.declared.fault.Fault.{Fault as Told}
 use Rattle.aries_c.specs.Fault.{OnDone, OnFailed}
 use Rattle.aries_c.specs.Journaling.{Refuses}
@@ -22,22 +22,15 @@ KeepsRun head ts after after_ts told = OnDone told (
 
 -- a transaction of this number has begun
 abbrev pub HasBegun : Head → List TransactionEntry → Head → List TransactionEntry → (tx : ℕ) → Told → Type 0
-HasBegun head ts after after_ts tx told = OnDone told (
-    (base : BasePages) (run : Run) (pages : List PageEntry) (ps : List PendingEntry) → IsJournal base run head ts pages ps
-    → is_some (kept_of (take after.transactions after_ts) (take after.pending ps) tx) ≡ true)
+HasBegun head ts after after_ts tx told = OnDone told (Begins head ts after after_ts tx)
 
 -- what is kept of each transaction but this one is as it was
-abbrev pub Others : Head → List TransactionEntry → Head → List TransactionEntry → (tx : ℕ) → Told → Type 0
-Others head ts after after_ts tx told = OnDone told (OthersStay head ts after after_ts tx)
-
--- the log is known to be on the disk up to this LSN at least, and nothing else changed
-abbrev pub IsForced : Head → Head → (lsn : ℕ) → Type 0
-IsForced head after lsn = after ≡ record head { written = max head.written lsn }
+abbrev pub KeepsRest : Head → List TransactionEntry → Head → List TransactionEntry → (tx : ℕ) → Told → Type 0
+KeepsRest head ts after after_ts tx told = OnDone told (OthersStay head ts after after_ts tx)
 
 -- no record of the log has this number
 abbrev pub IsFresh : Head → List TransactionEntry → (tx : ℕ) → Told → Type 0
-IsFresh head ts tx told = OnDone told (
-    (base : BasePages) (run : Run) (pages : List PageEntry) (ps : List PendingEntry) → IsJournal base run head ts pages ps → has (is_of tx) (log_of run) ≡ false)
+IsFresh head ts tx told = OnDone told (HasNoRecord head ts tx)
 
 abbrev pub BeginFails : Head → List TransactionEntry → Told → Type 0
 BeginFails head ts told = OnFailed told (
@@ -45,9 +38,7 @@ BeginFails head ts told = OnFailed told (
 
 -- a transaction of this number is not kept any more
 abbrev pub IsGone : Head → List TransactionEntry → Head → List TransactionEntry → (tx : ℕ) → Told → Type 0
-IsGone head ts after after_ts tx told = OnDone told (
-    (base : BasePages) (run : Run) (pages : List PageEntry) (ps : List PendingEntry) → IsJournal base run head ts pages ps
-    → kept_of (take after.transactions after_ts) (take after.pending ps) tx ≡ None)
+IsGone head ts after after_ts tx told = OnDone told (Leaves head ts after after_ts tx)
 
 abbrev pub CancelFails : Head → List TransactionEntry → (tx : ℕ) → Told → Type 0
 CancelFails head ts tx told = OnFailed told (

@@ -24,7 +24,7 @@ use Rattle.journal.specs.PageStates.{IsUpToDate}
 use Rattle.journal.specs.State.{IsJournal}
 use Rattle.aries_c.specs.declared.fault.Fault.{Fault as Told}
 use Rattle.aries_c.specs.declared.fault.TheConstants.{NO_ROOM}
-use Rattle.aries_c.specs.Fault.{no_memory, no_room, not_writable, Tells}
+use Rattle.aries_c.specs.Fault.{no_memory, no_room, not_writable, Tells, OnFailed}
 use Rattle.aries_c.specs.LogHeader.{NamesStart}
 use Rattle.aries_c.specs.Tables.{state_number}
 
@@ -101,7 +101,7 @@ NewFails version base_lsn store pages told =
     ⊎ ((content : StoreContent) × (begins : LogStart) × SpellsStore store content × NamesStart version base_lsn begins × FitsStart begins × Refuses (NewRefused begins content (length pages)) told))
 
 -- A LOG THAT IS CONTINUED: it has no torn tail
-pub record ContinuesJournal (log store : List ℕ) (head : Head) (ts : List TransactionEntry) (pages : List PageEntry) (ps : List PendingEntry) : Type 0 where
+pub record ContinuesLog (log store : List ℕ) (ts : List TransactionEntry) (pages : List PageEntry) (ps : List PendingEntry) (head : Head) : Type 0 where
   pub read : LogContent
   pub content : StoreContent
   pub reads : Reads log read 0
@@ -127,3 +127,6 @@ OpenFails log store ts pages ps told =
     ⊎ (((told ≡ not_writable) × HasTorn log)
     ⊎ (Tells (StoreFault store) told
     ⊎ ((read : LogContent) × (content : StoreContent) × Reads log read 0 × SpellsStore store content × Refuses (MayNotOpen read content (length ts) (length pages) (length ps)) told)))
+
+abbrev pub FailsToOpen : (log store : List ℕ) → List TransactionEntry → List PageEntry → List PendingEntry → Told → Type 0
+FailsToOpen log store ts pages ps told = OnFailed told (OpenFails log store ts pages ps told)

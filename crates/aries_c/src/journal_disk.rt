@@ -9,10 +9,10 @@ ghost use Rattle.journal.specs.Runs.{Run, appended, AreTrueTables};
 ghost use Rattle.journal.specs.Writing.{Begins};
 ghost use Rattle.journal.specs.Taken.{checkpoint_text, run_taken, CheckpointRefused};
 ghost use Rattle.journal.specs.declared.checkpoints.TheConstants.{LONGEST_CHECKPOINT};
-ghost use Rattle.journal.specs.State.{IsJournal};
+ghost use Rattle.journal.specs.State.{IsJournal, with_written};
 ghost use Rattle.aries_c.specs.Fault.{OnDone, OnFailed};
 ghost use Rattle.aries_c.specs.Journaling.{RefusesFrame};
-ghost use Rattle.aries_c.specs.JournalCalls.{IsForced, StaysJournal, LogWrittenFails, IsLogAhead, PageToWriteFails, Reports, ReportFails};
+ghost use Rattle.aries_c.specs.JournalCalls.{StaysJournal, LogWrittenFails, IsLogAhead, PageToWriteFails, Reports, ReportFails};
 
 use crate::Fault;
 use crate::refusal::{answer, frame_answer};
@@ -59,7 +59,7 @@ pub extern "C" fn aries_journal_checkpoint(
 pub extern "C" fn aries_journal_log_written(journal: &mut Head, lsn: u64) -> Fault
     ensures ok { StaysJournal journal.old journal.new }
     ensures known { OnDone result (lsn ≤ journal.old.last) }
-    ensures written { OnDone result (IsForced journal.old journal.new lsn) }
+    ensures written { OnDone result (journal.new ≡ with_written lsn journal.old) }
     ensures journal { OnFailed result (journal.new ≡ journal.old) }
     ensures refused { LogWrittenFails journal.old lsn result }
 {

@@ -4,7 +4,7 @@ ghost use Rattle.std.specs.Prelude.{◌≡◌, ◌≢◌, IfOk, IfErr, OnErr};
 ghost use Rattle.wal.specs.Headers.{FitsStart};
 ghost use Rattle.aries_c.specs.Fault.{OnDone, OnFailed, not_writable};
 ghost use Rattle.aries_c.specs.LogHeader.{NamesStart};
-ghost use Rattle.aries_c.specs.Journaling.{IsNewJournal, NamesNoStart, NewFails, ContinuesJournal, OpenFails};
+ghost use Rattle.aries_c.specs.Journaling.{IsNewJournal, NamesNoStart, NewFails, ContinuesLog, OpenFails, FailsToOpen};
 
 use crate::Fault;
 use journal::{Head, PageEntry, PendingEntry, TransactionEntry};
@@ -83,8 +83,8 @@ fn open_in(
     pages: &mut [PageEntry],
     pending: &mut [PendingEntry],
 ) -> Result<Head, Fault>
-    ensures open { IfOk result (λ head.
-        ContinuesJournal log.now store.now head transactions.new pages.new pending.new) }
+    ensures open { IfOk result (ContinuesLog log.now store.now
+        transactions.new pages.new pending.new) }
     ensures fails { IfErr result (OpenFails log.now store.now transactions.old pages.old pending.old) }
     ensures number { IfErr result (λ e. e.number ≢ 0) }
 {
@@ -110,11 +110,10 @@ pub extern "C" fn aries_journal_open(
     pages: &mut [PageEntry],
     pending: &mut [PendingEntry],
 ) -> Fault
-    ensures continues { OnDone result (ContinuesJournal log.now store.now journal.new
-        transactions.new pages.new pending.new) }
+    ensures continues { OnDone result (ContinuesLog log.now store.now
+        transactions.new pages.new pending.new journal.new) }
     ensures journal { OnFailed result (journal.new ≡ journal.old) }
-    ensures fails { OnFailed result
-        (OpenFails log.now store.now transactions.old pages.old pending.old result) }
+    ensures fails { FailsToOpen log.now store.now transactions.old pages.old pending.old result }
 {
     match open_in(alloc, log, store, transactions, pages, pending) {
         Ok(head) => {

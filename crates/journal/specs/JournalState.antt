@@ -1,5 +1,5 @@
 -- What a journal keeps, against its run (own).
-use Rattle.std.specs.Prelude.{⊤, true, false, max, is_some, None, ◌≡◌, ◌<◌, ◌≤◌, ◌-◌, ◌+◌, ◌*◌, ◌^◌, ℕ, List, [], ◌∷◌, ◌++◌, map, drop}
+use Rattle.std.specs.Prelude.{⊤, true, false, is_some, None, ◌≡◌, ◌<◌, ◌≤◌, ◌-◌, ◌+◌, ◌*◌, ◌^◌, ℕ, List, [], ◌∷◌, ◌++◌, map, drop}
 use Rattle.log_laws.specs.Records.{LogRecord, End, LogContent, TableEntry, CheckpointBegin, lsn_before, up_to, history, last_lsn}
 use Rattle.log_laws.specs.Meaning.{BasePages, is_of, has, pending}
 use Rattle.wal.specs.Reads.{spellings, log_text}
@@ -12,7 +12,7 @@ use Rattle.journal.specs.declared.framing.TheConstants.{LONGEST_UNDO}
 use Rattle.journal.specs.Arrays.{kept_of, LeavesOthers, page_state_of, AreUsed, owed}
 use Rattle.journal.specs.Taken.{run_taken}
 use Rattle.journal.specs.Rollbacks.{newest_of, all_appended}
-use Rattle.journal.specs.State.{Agrees, IsUndo, plain_by}
+use Rattle.journal.specs.State.{Agrees, with_written, IsUndo, plain_by}
 
 -- JOURNAL STATE. The entries that are in use, the frames that were not taken, the LSN up to which they were, and how many bytes of room
 -- there are for the frames of rollbacks.
@@ -73,8 +73,8 @@ abbrev pub HasNoRecord : JournalState → (tx : ℕ) → Type 0
 HasNoRecord j tx = (base : BasePages) (run : Run) → Keeps base run j → has (is_of tx) (log_of run) ≡ false
 
 -- THE LOG is known to be on the disk up to this LSN too, and all else is as it was.
-abbrev pub with_written : (lsn : ℕ) → JournalState → JournalState
-with_written lsn j = record j { head = record j.head { written = max j.head.written lsn } }
+abbrev pub known_up_to : (lsn : ℕ) → JournalState → JournalState
+known_up_to lsn j = record j { head = with_written lsn j.head }
 
 -- UNDO. The newest pending update of the transaction was undone by one CLR.
 abbrev pub Undoes : (before after : JournalState) → (tx : ℕ) → Type 0

@@ -1,5 +1,5 @@
 -- What a journal keeps, and what its run says (own).
-use Rattle.std.specs.Prelude.{◌≡◌, ℕ, true, false, List, take, map, Option, None, is_some}
+use Rattle.std.specs.Prelude.{◌≡◌, ℕ, true, false, List, take, map, Option, None, is_some, max}
 use Rattle.log_laws.specs.Records.{LogRecord, Update, Compensation, last_lsn, CompensationRecord, PlainRecord}
 use Rattle.log_laws.specs.Meaning.{BasePages, is_of, has, replay, last_of}
 use Rattle.log_laws.specs.Laws.{Compensates}
@@ -50,6 +50,10 @@ abbrev pub OthersStay : (before : Head) → List TransactionEntry → (after : H
 OthersStay before ts after after_ts tx =
     (base : BasePages) (run : Run) (pages : List PageEntry) (ps : List PendingEntry) → IsJournal base run before ts pages ps
     → LeavesOthers tx (take before.transactions ts) (take before.pending ps) (take after.transactions after_ts) (take after.pending ps)
+
+-- THE LOG is known to be on the disk up to this LSN too.
+abbrev pub with_written : (lsn : ℕ) → Head → Head
+with_written lsn head = record head { written = max head.written lsn }
 
 -- WHAT IS APPENDED
 -- an update, with what the log says of its transaction and its cell

@@ -1,6 +1,6 @@
 //! What an engine reports about the disk, and which pages it may write.
 
-ghost use Rattle.std.specs.Prelude.{◌≡◌, ◌≤◌, ◌<◌, max, List, OnOk, OnErr, IfOk, IfErr};
+ghost use Rattle.std.specs.Prelude.{◌≡◌, ◌≤◌, ◌<◌, List, OnOk, OnErr, IfOk, IfErr};
 ghost use Rattle.log_laws.specs.Meaning.{BasePages, last_on};
 ghost use Rattle.journal.specs.declared.entries.Head.{Head};
 ghost use Rattle.journal.specs.declared.entries.TransactionEntry.{TransactionEntry};
@@ -9,7 +9,7 @@ ghost use Rattle.journal.specs.declared.entries.PendingEntry.{PendingEntry};
 ghost use Rattle.journal.specs.Refusals.{ReportRefused, LogWrittenRefused, PageToWriteRefused};
 ghost use Rattle.journal.specs.Runs.{Run, reported, count_of, log_of};
 ghost use Rattle.journal.specs.Arrays.{Reaches, IsNoted};
-ghost use Rattle.journal.specs.State.{IsJournal};
+ghost use Rattle.journal.specs.State.{IsJournal, with_written};
 
 use crate::entries::{Head, PageEntry};
 use crate::refusal::Refusal;
@@ -22,8 +22,7 @@ pub fn log_written(head: &mut Head, lsn: u64) -> Result<(), Refusal>
         (ps : List PendingEntry) → IsJournal base run head.old ts pages ps
         → IsJournal base run head.new ts pages ps }
     ensures known { OnOk result (lsn ≤ head.old.last) }
-    ensures written { OnOk result (head.new
-        ≡ record head.old { written = max head.old.written lsn }) }
+    ensures written { OnOk result (head.new ≡ with_written lsn head.old) }
     ensures err { OnErr result (head.new ≡ head.old) }
     ensures refused { IfErr result (λ e. (base : BasePages) (run : Run)
         (ts : List TransactionEntry) (pages : List PageEntry) (ps : List PendingEntry)

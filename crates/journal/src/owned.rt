@@ -18,7 +18,7 @@ ghost use Rattle.journal.specs.Rollbacks.{newest_of, CanUndo};
 ghost use Rattle.journal.specs.Opened.{OwnNewRefused, OwnOpenRefused, OpenRefusedFor};
 ghost use Rattle.journal.specs.Holders.{IsHolder};
 ghost use Rattle.journal.specs.Refusals.{CellMissing, CancelRefused, ReportRefused, PageToWriteRefused, StepRefused, OwnBeginRefused, OwnUpdateRefused, OwnPrepareRefused, OwnUndoRefused, OwnEndRefused, OwnCheckpointRefused};
-ghost use Rattle.journal.specs.JournalState.{JournalState, Keeps, Appends, StaysKept, LeavesRest, OthersStay, HasBegun, IsGone, HasNoRecord, with_written, Undoes, TakesCheckpoint, RollsBackTo, RollsBackAll};
+ghost use Rattle.journal.specs.JournalState.{JournalState, Keeps, Appends, StaysKept, LeavesRest, OthersStay, HasBegun, IsGone, HasNoRecord, known_up_to, Undoes, TakesCheckpoint, RollsBackTo, RollsBackAll};
 
 use crate::checkpoints::LONGEST_CHECKPOINT;
 use crate::entries::{Head, PageEntry, PendingEntry, TransactionEntry};
@@ -216,7 +216,7 @@ impl Journal {
     pub fn log_written(&mut self, lsn: u64) -> Result<(), Refusal>
         ensures ok { OnOk result (StaysKept self.old self.new) }
         ensures known { OnOk result (lsn ≤ self.old.taken) }
-        ensures written { OnOk result (self.new ≡ with_written lsn self.old) }
+        ensures written { OnOk result (self.new ≡ known_up_to lsn self.old) }
         ensures kept { OnErr result (self.new ≡ self.old) }
         ensures err { IsOkUnless result NoSuchLsn }
         ensures refused { OnErr result (self.old.taken < lsn) }
