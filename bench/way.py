@@ -168,7 +168,7 @@ CUTS = {
     'a large store': 'recovery/copying.rt:recover_copying recovery/by_pieces.rt:recover_by_pieces recovery/log_again.rt:read_store_first',
     'a recovery': 'aries/files.rt:audit_files aries/files.rt:read_file aries/program.rt:run_audit command/job.rt:audit_job',
     'new files': '''aries/in_place.rt aries/names.rt aries/left.rt aries/new_tail.rt recovery/in_place.rt recovery/tail_file.rt
-        aries/program.rt:name_and_run aries/program.rt:text_of LogBytes::sum_of_end LogBytes::sum''',
+        aries/program.rt:name_and_run aries/program.rt:text_of LogBytes::sum_of_end LogBytes::torn_of LogBytes::sum''',
     'in place': '''aries/program.rt:run_recovery aries/left.rt:continue_again NewTail::keep NewTail::torn NewTail::write_whole
         job_files/notices.rt''',
     'in pieces': 'recovery/devices.rt:recover recovery/in_place.rt:recover_in_place',

@@ -176,7 +176,7 @@ pub fn recover<LR: Source, SR: Source, LW: Sink, SW: Sink, G: Gate, R: Threads +
     let (records, decoded) = decode_both(rt, alloc, &text, known, workers, store, &mut room);
     let decoded = decoded?;
     let remade = remake(rt, alloc, records, decoded.store, options, gate)?;
-    let (kept, _) = LogBytes::parts_of(&text, &remade);
+    let kept = LogBytes::kept_of(&text, &remade);
     write_both(out_log, out_store, &kept, &remade, &mut room)?;
     Ok(remade.report)
 }

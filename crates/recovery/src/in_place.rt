@@ -204,7 +204,8 @@ pub fn recover_in_place<
     let (records, decoded) = decode_both(rt, alloc, &text, known, workers, store, &mut room);
     let decoded = decoded?;
     let remade = remake(rt, alloc, records, decoded.store, options, gate)?;
-    let (kept, torn) = LogBytes::parts_of(&text, &remade);
+    let kept = LogBytes::kept_of(&text, &remade);
+    let torn = LogBytes::torn_of(&text, &remade);
     let file = file_of(&text, &kept, &torn, &remade.frames);
     write_in_place(tail, out_log, out_store, &file, &remade.store, &mut room)?;
     Ok(remade.report)

@@ -1,4 +1,4 @@
-//! The bytes of a log that are kept, and those of its torn tail.
+//! The bytes of a log that are kept.
 
 ghost use Rattle.std.specs.Prelude.{◌≡◌, ◌≤◌, ◌++◌, ℕ, List, length, OnOk, OnErr};
 ghost use Rattle.std.specs.Io.KnownBytes.{Keeps};
@@ -13,8 +13,8 @@ use crate::tail_file::{SUM_OF_NONE, sum_of_end, sum_on};
 use device::{Failed, Sink, write_all};
 use std::marker::Model;
 
-/// Bytes of a log, borrowed in the two parts in which they are in memory. Contracts see all of them,
-/// one part after the other.
+/// The bytes of a log, or the first of them, borrowed in the two parts in which they are in memory.
+/// Contracts see all of them, one part after the other.
 #[derive(Drop)]
 pub struct LogBytes<'a> {
     front: &'a [u8],
@@ -29,7 +29,7 @@ impl<'a> Model for LogBytes<'a> {
 
 impl<'a> LogBytes<'a> {
     /// The bytes without the torn tail of the log from which this was made, and those of the tail.
-    pub fn parts_of(text: &'a LogText, remade: &Remade) -> (LogBytes<'a>, LogBytes<'a>)
+    fn parts_of(text: &'a LogText, remade: &Remade) -> (LogBytes<'a>, LogBytes<'a>)
         requires { text.now.from ≤ length text.now.back.items }
         ensures kept { result.0 ≡ kept_of text.now remade.now.report.torn }
         ensures torn { result.1 ≡ torn_of text.now remade.now.report.torn }
@@ -44,6 +44,24 @@ impl<'a> LogBytes<'a> {
             back: torn_back,
         };
         (LogBytes { front, back }, torn)
+    }
+
+    /// The bytes without the torn tail of the log from which this was made.
+    pub fn kept_of(text: &'a LogText, remade: &Remade) -> LogBytes<'a>
+        requires { text.now.from ≤ length text.now.back.items }
+        ensures { result ≡ kept_of text.now remade.now.report.torn }
+    {
+        let (kept, _) = LogBytes::parts_of(text, remade);
+        kept
+    }
+
+    /// The bytes of the torn tail of the log from which this was made.
+    pub fn torn_of(text: &'a LogText, remade: &Remade) -> LogBytes<'a>
+        requires { text.now.from ≤ length text.now.back.items }
+        ensures { result ≡ torn_of text.now remade.now.report.torn }
+    {
+        let (_, torn) = LogBytes::parts_of(text, remade);
+        torn
     }
 
     /// How many they are.

@@ -62,11 +62,11 @@ returns-in_err-write_in_place-clause-tail_first g c =
       recovers = c.in_ok-remade.ensures.answer log text reads decodes;
     } in
     let file = c.file_of-file.result in
-    let count = kept_count file.kept remade.report.torn log _ c.file_of-file.ensures.kept c.parts_of.ensures.kept in
+    let count = kept_count file.kept remade.report.torn log _ c.file_of-file.ensures.kept c.kept_of-kept.ensures in
     let frames_are = c.file_of-file.ensures.frames ∙ c.deref.ensures.value in
     let tail : tail_text file.length file.kept file.end file.cut file.frames.now ≡ tail_of made =
-    same_tail _ _ _ _ _ _ _ _ _ _ c.file_of-file.ensures.length count (c.file_of-file.ensures.end ∙ ap (λ (t : List ℕ). sum_of (end_of t)) c.parts_of.ensures.kept)
-    (c.file_of-file.ensures.cut ∙ ap sum_of c.parts_of.ensures.torn) frames_are in
+    same_tail _ _ _ _ _ _ _ _ _ _ c.file_of-file.ensures.length count (c.file_of-file.ensures.end ∙ ap (λ (t : List ℕ). sum_of (end_of t)) c.kept_of-kept.ensures)
+    (c.file_of-file.ensures.cut ∙ ap sum_of c.torn_of-torn.ensures) frames_are in
     elim c.write_in_place.ensures.tail_first [
       | inl same ↦ inl same
       | inr out ↦ inr (made, has_tail made g.T.Sink c.args.tail.now c.write_in_place.new.tail _ tail out)
@@ -91,7 +91,7 @@ returns-in_err-write_in_place-clause-log_first g c =
       recovers = c.in_ok-remade.ensures.answer log text reads decodes;
     } in
     let file = c.file_of-file.result in
-    let count = kept_count file.kept remade.report.torn log _ c.file_of-file.ensures.kept c.parts_of.ensures.kept in
+    let count = kept_count file.kept remade.report.torn log _ c.file_of-file.ensures.kept c.kept_of-kept.ensures in
     let frames_are = c.file_of-file.ensures.frames ∙ c.deref.ensures.value in
     elim c.write_in_place.ensures.log_first [
       | inl same ↦ inl same
@@ -121,11 +121,11 @@ returns-clause-tail_first g c =
       recovers = c.in_ok-remade.ensures.answer log text reads decodes;
     } in
     let file = c.file_of-file.result in
-    let count = kept_count file.kept remade.report.torn log _ c.file_of-file.ensures.kept c.parts_of.ensures.kept in
+    let count = kept_count file.kept remade.report.torn log _ c.file_of-file.ensures.kept c.kept_of-kept.ensures in
     let frames_are = c.file_of-file.ensures.frames ∙ c.deref.ensures.value in
     let tail : tail_text file.length file.kept file.end file.cut file.frames.now ≡ tail_of made =
-    same_tail _ _ _ _ _ _ _ _ _ _ c.file_of-file.ensures.length count (c.file_of-file.ensures.end ∙ ap (λ (t : List ℕ). sum_of (end_of t)) c.parts_of.ensures.kept)
-    (c.file_of-file.ensures.cut ∙ ap sum_of c.parts_of.ensures.torn) frames_are in
+    same_tail _ _ _ _ _ _ _ _ _ _ c.file_of-file.ensures.length count (c.file_of-file.ensures.end ∙ ap (λ (t : List ℕ). sum_of (end_of t)) c.kept_of-kept.ensures)
+    (c.file_of-file.ensures.cut ∙ ap sum_of c.torn_of-torn.ensures) frames_are in
     elim c.write_in_place.ensures.tail_first [
       | inl same ↦ inl same
       | inr out ↦ inr (made, has_tail made g.T.Sink c.args.tail.now c.write_in_place.new.tail _ tail out)
@@ -150,7 +150,7 @@ returns-clause-log_first g c =
       recovers = c.in_ok-remade.ensures.answer log text reads decodes;
     } in
     let file = c.file_of-file.result in
-    let count = kept_count file.kept remade.report.torn log _ c.file_of-file.ensures.kept c.parts_of.ensures.kept in
+    let count = kept_count file.kept remade.report.torn log _ c.file_of-file.ensures.kept c.kept_of-kept.ensures in
     let frames_are = c.file_of-file.ensures.frames ∙ c.deref.ensures.value in
     elim c.write_in_place.ensures.log_first [
       | inl same ↦ inl same
@@ -181,7 +181,7 @@ returns-in_err-write_in_place-clause-left g c =
       recovers = c.in_ok-remade.ensures.answer log text reads decodes;
     } in
     let file = c.file_of-file.result in
-    let count = kept_count file.kept remade.report.torn log _ c.file_of-file.ensures.kept c.parts_of.ensures.kept in
+    let count = kept_count file.kept remade.report.torn log _ c.file_of-file.ensures.kept c.kept_of-kept.ensures in
     let frames_are = c.file_of-file.ensures.frames ∙ c.deref.ensures.value in
     let stays = stays_as g.LW.Sink c.args.out_log.now c.write_in_place.new.log g.SW.Sink c.args.out_store.now c.write_in_place.new.store file.kept kept file.frames.now remade.frames.items (store_text remade.store) c.in_err-write_in_place.field-0.0 count frames_are c.in_err-write_in_place.ensures.fault in
     rw (exit.1, exit.2) (left_in g.LW.Sink c.args.out_log.now c.write_in_place.new.log g.SW.Sink c.args.out_store.now c.write_in_place.new.store made c.in_err-write_in_place.field-0.0 stays)
@@ -205,7 +205,7 @@ returns-in_err-write_in_place-clause-resumable g c = λ base log_text store_byte
       recovers = c.in_ok-remade.ensures.answer log text reads decodes;
     } in
     let file = c.file_of-file.result in
-    let count = kept_count file.kept remade.report.torn log _ c.file_of-file.ensures.kept c.parts_of.ensures.kept in
+    let count = kept_count file.kept remade.report.torn log _ c.file_of-file.ensures.kept c.kept_of-kept.ensures in
     let frames_are = c.file_of-file.ensures.frames ∙ c.deref.ensures.value in
     let stays = stays_as g.LW.Sink c.args.out_log.now c.write_in_place.new.log g.SW.Sink c.args.out_store.now c.write_in_place.new.store file.kept kept file.frames.now remade.frames.items (store_text remade.store) c.in_err-write_in_place.field-0.0 count frames_are c.in_err-write_in_place.ensures.fault in
     let same_log = told (g.LR.Source.left c.args.log.now) log log_text read.log_read tells_log in
@@ -237,7 +237,7 @@ returns-clause-lawful g c = λ base log_text store_bytes tells_log tells_store h
       recovers = c.in_ok-remade.ensures.answer log text reads decodes;
     } in
     let file = c.file_of-file.result in
-    let count = kept_count file.kept remade.report.torn log _ c.file_of-file.ensures.kept c.parts_of.ensures.kept in
+    let count = kept_count file.kept remade.report.torn log _ c.file_of-file.ensures.kept c.kept_of-kept.ensures in
     let frames_are = c.file_of-file.ensures.frames ∙ c.deref.ensures.value in
     let done = continued_as _ _ _ _ _ _ _ count frames_are c.in_ok-write_in_place.ensures.log_done in
     let same_log = told (g.LR.Source.left c.args.log.now) log log_text read.log_read tells_log in
@@ -273,7 +273,7 @@ returns-clause-answer g c =
       recovers = c.in_ok-remade.ensures.answer log text reads decodes;
     } in
     let file = c.file_of-file.result in
-    let count = kept_count file.kept remade.report.torn log _ c.file_of-file.ensures.kept c.parts_of.ensures.kept in
+    let count = kept_count file.kept remade.report.torn log _ c.file_of-file.ensures.kept c.kept_of-kept.ensures in
     let frames_are = c.file_of-file.ensures.frames ∙ c.deref.ensures.value in
     let done = continued_as _ _ _ _ _ _ _ count frames_are c.in_ok-write_in_place.ensures.log_done in
     record { made = made; report_is = refl; log_out = done.continued; store_out = c.in_ok-write_in_place.ensures.store_out.out }
