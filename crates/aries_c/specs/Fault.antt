@@ -101,7 +101,7 @@ OnNotWritable told Holds = told.number ≡ NOT_WRITABLE → Holds
 
 -- if it succeeded, or a buffer is too short
 abbrev pub OnMade : Told → Type 0 → Type 0
-OnMade told Holds = (told ≡ done) ⊎ (told ≡ no_room) → Holds
+OnMade told Holds = (told.number ≡ 0) ⊎ (told.number ≡ NO_ROOM) → Holds
 
 -- BY ITS PLACE
 -- no place

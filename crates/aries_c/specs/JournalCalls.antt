@@ -25,8 +25,8 @@ abbrev pub HasBegun : Head → List TransactionEntry → Head → List Transacti
 HasBegun head ts after after_ts tx told = OnDone told (Begins head ts after after_ts tx)
 
 -- what is kept of each transaction but this one is as it was
-abbrev pub KeepsRest : Head → List TransactionEntry → Head → List TransactionEntry → (tx : ℕ) → Told → Type 0
-KeepsRest head ts after after_ts tx told = OnDone told (OthersStay head ts after after_ts tx)
+abbrev pub Untouched : Head → List TransactionEntry → Head → List TransactionEntry → (tx : ℕ) → Told → Type 0
+Untouched head ts after after_ts tx told = OnDone told (OthersStay head ts after after_ts tx)
 
 -- no record of the log has this number
 abbrev pub IsFresh : Head → List TransactionEntry → (tx : ℕ) → Told → Type 0

@@ -14,7 +14,7 @@ ghost use Rattle.journal.specs.declared.framing.TheConstants.{LONGEST_CHANGE, LO
 ghost use Rattle.journal.specs.State.{IsJournal, update_by, IsUndo, plain_by};
 ghost use Rattle.aries_c.specs.Fault.{OnDone, OnFailed};
 ghost use Rattle.aries_c.specs.Journaling.{RefusesFrame, TurnRefused};
-ghost use Rattle.aries_c.specs.JournalCalls.{KeepsRun, HasBegun, KeepsRest, IsFresh, BeginFails, IsGone, CancelFails, IsNewest, NewestFails};
+ghost use Rattle.aries_c.specs.JournalCalls.{KeepsRun, HasBegun, Untouched, IsFresh, BeginFails, IsGone, CancelFails, IsNewest, NewestFails};
 
 use crate::Fault;
 use crate::refusal::{answer, frame_answer, refused};
@@ -31,7 +31,7 @@ pub extern "C" fn aries_journal_begin(
     ensures begun { HasBegun journal.old transactions.old journal.new transactions.new tx.new result }
     ensures fresh { IsFresh journal.old transactions.old tx.new result }
     ensures last { journal.new.last ≡ journal.old.last }
-    ensures others { KeepsRest journal.old transactions.old journal.new transactions.new tx.new result }
+    ensures others { Untouched journal.old transactions.old journal.new transactions.new tx.new result }
     ensures number { OnDone result (tx.new ≡ journal.old.next) }
     ensures next { OnDone result (journal.new.next ≡ tx.new + 1) }
     ensures unforced { journal.new.written ≡ journal.old.written }
@@ -60,7 +60,7 @@ pub extern "C" fn aries_journal_cancel(
     ensures gone { IsGone journal.old transactions.old journal.new transactions.new tx result }
     ensures last { journal.new.last ≡ journal.old.last }
     ensures unlogged { IsFresh journal.old transactions.old tx result }
-    ensures others { KeepsRest journal.old transactions.old journal.new transactions.new tx result }
+    ensures others { Untouched journal.old transactions.old journal.new transactions.new tx result }
     ensures unforced { journal.new.written ≡ journal.old.written }
     ensures next { journal.new.next ≡ journal.old.next }
     ensures journal { OnFailed result (journal.new ≡ journal.old) }
@@ -190,7 +190,7 @@ pub extern "C" fn aries_journal_turn(
         × IsWritten r (journal.old.last + 1) out.old out.new told.new) }
     ensures short { OnDone result (told.new ≡ PLAIN_FRAME) }
     ensures lsn { OnDone result (journal.new.last ≡ journal.old.last + 1) }
-    ensures others { KeepsRest journal.old transactions.old journal.new transactions.new tx result }
+    ensures others { Untouched journal.old transactions.old journal.new transactions.new tx result }
     ensures unforced { journal.new.written ≡ journal.old.written }
     ensures next { journal.new.next ≡ journal.old.next }
     ensures journal { OnFailed result (journal.new ≡ journal.old) }

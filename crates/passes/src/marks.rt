@@ -1,6 +1,6 @@
 //! The marks of a log, between which it is read in pieces.
 
-ghost use Rattle.std.specs.Prelude.{◌≡◌, ◌⊎◌, ◌+◌, ◌-◌, ◌*◌, ◌^◌, ◌<◌, ◌≤◌, ◌∷◌, [], ◌++◌, ℕ, length, slice_index_or, IfOk, OnOk, IsOkUnless, IsTrue};
+ghost use Rattle.std.specs.Prelude.{◌≡◌, ◌⊎◌, ◌+◌, ◌-◌, ◌*◌, ◌^◌, ◌<◌, ◌≤◌, ◌∷◌, [], ◌++◌, ℕ, length, slice_index_or, IfOk, OnOk, OnErr, IsOkUnless, IsTrue};
 ghost use Rattle.page.specs.declared.fault.Fault.TheVariants.{NoResource};
 ghost use Rattle.wal.specs.declared.sizes.TheConstants.{HEADER_BYTES, LARGEST_BASE, SMALLEST_FRAME};
 ghost use Rattle.pieces.specs.declared.mark.Mark.{Mark};
@@ -79,10 +79,15 @@ impl Marks {
     ///
     /// The only error is `NoResource`: memory was refused, or the mark's LSN or its offset is above
     /// 2^63 - 1, or its LSN is below that of the last mark, or more than 2^59 above that of the
-    /// first.
+    /// first. The list is then as before.
     pub fn push(&mut self, mark: Mark) -> Result<(), Fault>
         ensures pushed { OnOk result (self.new ≡ self.old ++ mark ∷ []) }
         ensures low { OnOk result (IsLow mark) }
+        ensures rises { OnOk result ((d : Mark)
+            → (slice_index_or self.old (length self.old - 1) d).lsn ≤ mark.lsn) }
+        ensures near { OnOk result ((d : Mark)
+            → mark.lsn ≤ (slice_index_or self.old 0 d).lsn + 2 ^ 59) }
+        ensures unchanged { OnErr result (self.new ≡ self.old) }
         ensures err { IsOkUnless result NoResource }
     {
         let base = self.first().lsn;

@@ -1,8 +1,8 @@
 -- The records of a log of which some are kept.
 use Rattle.std.proofs.Common.{ℕ, suc, ◌≡◌, ◌+◌, ◌-◌, ◌<◌, ◌≤◌, cond, eqb, ne_eqb, List, [], ◌∷◌, ◌++◌, length, get_or, Option, Some, None, refl, subst, sym, ap, ◌∙◌, inl, inr, arith, length-append}
 use mathlib.Core.Path.{fun_ext}
-use Rattle.std.specs.Prelude.{Bool, option_map, unwrap_or}
-use Rattle.std.specs.List.{slice_get}
+use Rattle.std.specs.Prelude.{Bool, map, option_map, unwrap_or}
+use Rattle.std.specs.List.{range_with_len, slice_get}
 use Rattle.std.specs.Map.{lookup}
 use Rattle.std.specs.Ordering.{is_eq, nat_cmp}
 use Rattle.std.proofs.lemmas.Bool.{cases_Bool, cases_lt}
@@ -11,7 +11,8 @@ use Rattle.std.proofs.lemmas.List.{get_or_append_left}
 use Rattle.std.proofs.Math.Seq.{get_or-append_seam}
 use Rattle.wal.specs.Reading.{◌>>=◌}
 use Rattle.std.proofs.lemmas.List.FromFn.{get_or-map-range_with_len, length-map-range_with_len}
-use Rattle.log_laws.specs.Records.{LogRecord, CheckpointBegin, history, last_lsn, base_lsn, record_at}
+use Rattle.log_laws.specs.declared.start.LogStart.TheVariants.{Version2}
+use Rattle.log_laws.specs.Records.{LogRecord, LogContent, CheckpointBegin, history, last_lsn, base_lsn, record_at}
 use Rattle.wal.proofs.Entries.{is_eq-nat_cmp}
 use Rattle.log_laws.proofs.Histories.{record_item, record_none, size_of_log, base_of_log}
 use Rattle.undo.specs.Gathered.{link_in, place_of, kept_at, gathered_log, IsPassedOver}
@@ -115,6 +116,13 @@ gathered_more base count lsn n old new links x from to kept =
           ]
       | inr below ↦ rw (ne_eqb lsn n (λ e. omega (arith, e, from, below))) (gathered_none base count new (links ++ x ∷ []) n below ∙ sym (gathered_none base count old links n below))
     ]
+
+-- a link at no place changes nothing
+pub gathered_same : (base count : ℕ) (places : List (ℕ × ℕ)) (links : List LogRecord) (x : LogRecord) → ((n place : ℕ) → place_of n places ≡ Some place → place < length links)
+    → gathered_log base count places (links ++ x ∷ []) ≡ gathered_log base count places links
+gathered_same base count places links x placed =
+    let made : (ℕ → LogRecord) → LogContent = λ each. record { begins = Version2 base; records = map each (range_with_len (suc base) count) } in
+    ap made (fun_ext (λ n. ap (λ o. unwrap_or o CheckpointBegin) (kept_before places links x n (placed n))))
 
 -- none is kept at first
 pub none_kept : (base count lsn : ℕ) (places : List (ℕ × ℕ)) (links : List LogRecord) → places ≡ [] → IsPassedOver (record_at (history (gathered_log base count places links)) lsn)

@@ -1,6 +1,6 @@
 //! A log of which only the records are kept that undo looks at.
 
-ghost use Rattle.std.specs.Prelude.{◌≡◌, ◌+◌, ◌*◌, ◌-◌, ◌<◌, ◌≤◌, ◌^◌, length, option_map, ℕ, Some, None, OnOk, IfSome, IsOkUnless, IsTrue, ◌↔◌};
+ghost use Rattle.std.specs.Prelude.{◌≡◌, ◌+◌, ◌*◌, ◌-◌, ◌<◌, ◌≤◌, ◌^◌, length, option_map, ℕ, Some, None, OnOk, OnErr, IfSome, IsOkUnless, IsTrue, ◌↔◌};
 ghost use Rattle.page.specs.declared.fault.Fault.TheVariants.{NoResource};
 ghost use Rattle.wal.specs.Content.{content, shown};
 ghost use Rattle.log_laws.specs.Records.{history, record_at, last_lsn, base_lsn};
@@ -122,6 +122,7 @@ impl Gathered {
         ensures base { base_lsn (history self.new) ≡ base_lsn (history self.old) }
         ensures last { last_lsn (history self.new) ≡ last_lsn (history self.old) }
         ensures kept { OnOk result (KeepsLink lsn (content link) self.old self.new) }
+        ensures unchanged { OnErr result (self.new ≡ self.old) }
         ensures err { IsOkUnless result NoResource }
     {
         let place = self.records.len();

@@ -18,8 +18,8 @@ pub returns-in-Err-clause-lawful_tail : goal.returns-in-Err-clause-lawful_tail
 returns-in-Err-clause-lawful_tail c = λ base bytes answered.
     let is : c.from.result ≡ no_memory = c.from.ensures ∙ ap told_of (c.in-Err.ensures.lawful base bytes) in
     elim answered [
-      | inl answer ↦ absurd (omega (arith, ap (λ (told : Told). told.number) (sym is ∙ answer)))
-      | inr answer ↦ absurd (omega (arith, ap (λ (told : Told). told.number) (sym is ∙ answer)))
+      | inl answer ↦ absurd (omega (arith, ap (λ (told : Told). told.number) is, answer))
+      | inr answer ↦ absurd (omega (arith, ap (λ (told : Told). told.number) is, answer))
     ]
 
 pub returns-then-tail-len-clause-lawful_tail : goal.returns-then-tail-len-clause-lawful_tail

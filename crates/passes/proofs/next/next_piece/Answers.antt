@@ -1,4 +1,4 @@
-use Rattle.std.proofs.Common.{◌≡◌, ◌+◌, ◌-◌, ◌≤◌, ℕ, List, length, take, ap₂, sym, subst, ◌∙◌, inl, inr, arith, length-take}
+use Rattle.std.proofs.Common.{◌≡◌, ◌+◌, ◌-◌, ◌≤◌, ℕ, List, length, take, ap₂, refl, sym, subst, ◌∙◌, inl, inr, arith, length-take}
 use Rattle.std.proofs.lemmas.Bool.{cases_lt}
 use Rattle.std.proofs.lemmas.Result.{err_from_is_err_and}
 use Rattle.log_laws.specs.Records.{◌⧺◌}
@@ -17,6 +17,22 @@ returns-in_err-log-clause-fault g c =
     (λ text before is mark long. c.in_err-log.ensures.fault text before (c.in_ok-count.count - BASED_HEADER_BYTES) mark
     (told (g.S.Reread.text c.args.source.now) text (λ t. take c.in_ok-count.count c.read_piece.new.room ≡ piece_text t c.args.mark (c.in_ok-count.count - BASED_HEADER_BYTES)) is c.in_ok-count.ensures.piece))
 
+pub returns-in_err-log-clause-any_room : goal.returns-in_err-log-clause-any_room
+returns-in_err-log-clause-any_room g c =
+    let exit = err_from_is_err_and c.from_residual-in_err-log.result c.from_residual-in_err-log.ensures.1 in
+    rw (exit.1, exit.2)
+    (λ text before is mark. inl (c.in_err-log.ensures.fault text before (c.in_ok-count.count - BASED_HEADER_BYTES) mark
+    (told (g.S.Reread.text c.args.source.now) text (λ t. take c.in_ok-count.count c.read_piece.new.room ≡ piece_text t c.args.mark (c.in_ok-count.count - BASED_HEADER_BYTES)) is c.in_ok-count.ensures.piece)))
+
+pub returns-then-base-mark-clause-any_room : goal.returns-then-base-mark-clause-any_room
+returns-then-base-mark-clause-any_room g c = λ text before is mark.
+    let count : ℕ = c.in_ok-count.count - BASED_HEADER_BYTES in
+    let piece_is : take c.in_ok-count.count c.read_piece.new.room ≡ piece_text text c.args.mark count =
+    told (g.S.Reread.text c.args.source.now) text (λ t. take c.in_ok-count.count c.read_piece.new.room ≡ piece_text t c.args.mark count) is c.in_ok-count.ensures.piece in
+    absurd
+    (c.if-base-mark.true
+    (c.base.ensures.is ∙ base_is text before c.args.mark (length (take c.in_ok-count.count c.read_piece.new.room) - BASED_HEADER_BYTES) c.in_ok-log.torn c.in_ok-log.log (c.in_ok-log.ensures.goes_on text before count mark piece_is)))
+
 pub returns-then-base-mark-clause-fault : goal.returns-then-base-mark-clause-fault
 returns-then-base-mark-clause-fault g c = λ text before is mark long.
     let count : ℕ = c.in_ok-count.count - BASED_HEADER_BYTES in
@@ -25,6 +41,9 @@ returns-then-base-mark-clause-fault g c = λ text before is mark long.
     absurd
     (c.if-base-mark.true
     (c.base.ensures.is ∙ base_is text before c.args.mark (length (take c.in_ok-count.count c.read_piece.new.room) - BASED_HEADER_BYTES) c.in_ok-log.torn c.in_ok-log.log (c.in_ok-log.ensures.goes_on text before count mark piece_is)))
+
+pub returns-then-count-full-clause-any_room : goal.returns-then-count-full-clause-any_room
+returns-then-count-full-clause-any_room g c = λ text before is mark. inr refl
 
 pub returns-then-count-full-clause-fault : goal.returns-then-count-full-clause-fault
 returns-then-count-full-clause-fault g c = λ text before is mark long.

@@ -5,7 +5,7 @@ use Rattle.wal.specs.Content.{content}
 use Rattle.wal.specs.Spelling.{Fits}
 use Rattle.log_laws.specs.Records.{LogRecord, history, last_lsn, base_lsn, record_at}
 use Rattle.undo.specs.Gathered.{IsGathered, gathered_log, link_in, place_of}
-use Rattle.undo.proofs.Chains.{gathered_last, gathered_base, gathered_more, place_of-changed, placed_more, kept_more}
+use Rattle.undo.proofs.Chains.{gathered_last, gathered_base, gathered_more, gathered_same, place_of-changed, placed_more, kept_more}
 use Rattle.undo.proofs.gathered.Gathered.keep.Goals as goal
 
 pub returns-in_err-insert-clause-base : goal.returns-in_err-insert-clause-base
@@ -17,6 +17,13 @@ pub returns-in_err-insert-clause-last : goal.returns-in_err-insert-clause-last
 returns-in_err-insert-clause-last c =
     let inside = c.self.inside in
     gathered_last inside.base inside.count c.insert.new.self.entries (map content c.push.new.self.items) ∙ sym (gathered_last inside.base inside.count inside.places.entries (map content inside.records.items)) ∙ ap (λ l. last_lsn (history l)) c.self.view_is
+
+pub returns-in_err-insert-clause-unchanged : goal.returns-in_err-insert-clause-unchanged
+returns-in_err-insert-clause-unchanged c = λ _.
+    let inside = c.self.inside in
+    ap (gathered_log inside.base inside.count c.insert.new.self.entries) (ap (map content) c.in_ok-push.ensures.items ∙ map_push content inside.records.items c.args.link)
+    ∙ gathered_same inside.base inside.count c.insert.new.self.entries (map content inside.records.items) (content c.args.link) c.self.invariant.placed
+    ∙ c.self.view_is
 
 pub returns-clause-base : goal.returns-clause-base
 returns-clause-base c =
