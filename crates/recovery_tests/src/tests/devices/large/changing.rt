@@ -1,6 +1,8 @@
-//! A store whose bytes change between its two readings, which no one may do.
+//! A store or a log whose bytes change between two readings, which no one may do.
 
-use super::{Left, OPTIONS, Paces, Worked, begun, recovered, worked_wide};
+use super::{
+    Left, OPTIONS, Paces, Worked, are_whole, begun, is_untouched, recovered, torn_log, worked_wide,
+};
 use checks::{check, check_all};
 use device::{Failed, MemorySource, Reread, Source};
 use page::Fault;
@@ -38,6 +40,9 @@ impl<'a> Reread for ChangingSource<'a> {
 /// pages, one of two pages, and one that finds the end.
 const READS: u32 = 5;
 
+/// More reads than all readings of a log of three records take.
+const READS_OF_LOG: u32 = 100;
+
 /// Recovers a row whose store holds other bytes when it is read once more.
 fn left_of_changed(alloc: Global, worked: &Worked, after: &[u8]) -> Result<Left, Fail> {
     let bytes = worked.row.given.bytes.as_slice();
@@ -50,6 +55,53 @@ fn left_of_changed(alloc: Global, worked: &Worked, after: &[u8]) -> Result<Left,
     let mut log = MemorySource::new(bytes);
     left.answer = recovered(alloc, &mut log, &mut store, &mut left, &OPTIONS);
     Ok(left)
+}
+
+/// Recovers a row from a log of these bytes, of which the last one is gone after some reads.
+fn left_of_shorter(
+    alloc: Global,
+    worked: &Worked,
+    bytes: &[u8],
+    reads: u32,
+) -> Result<Left, Fail> {
+    let mut left = begun(alloc, worked, bytes, &Paces::fast())?;
+    let mut log = ChangingSource {
+        before: MemorySource::new(bytes),
+        after: MemorySource::new(&bytes[..bytes.len().saturating_sub(1)]),
+        reads,
+    };
+    let mut store = MemorySource::new(&worked.before);
+    left.answer = recovered(alloc, &mut log, &mut store, &mut left, &OPTIONS);
+    Ok(left)
+}
+
+/// The fault of a recovery whose log loses its last byte right before the last reading of it;
+/// `None` if there is none, or if something is written.
+fn fault_of_shorter(alloc: Global, worked: &Worked, bytes: &[u8]) -> Result<Option<Fault>, Fail> {
+    for later in 0..READS_OF_LOG {
+        let left = left_of_shorter(alloc, worked, bytes, READS_OF_LOG - later)?;
+        match left.answer {
+            Err(fault) if is_untouched(&left, bytes) => return Ok(Some(fault)),
+            Ok(_) if are_whole(worked, &left) => {}
+            _ => return Ok(None),
+        }
+    }
+    Ok(None)
+}
+
+/// The last reading of the log is of bytes whose sum goes into the file of the tail, before the
+/// first write: the end of what is kept, then what is cut off.
+#[test]
+fn a_log_that_became_shorter(rt: HostRuntime) -> Result<(), Fail> {
+    let alloc = rt.alloc();
+    let worked = worked_wide(alloc)?;
+    let kept = worked.row.given.bytes.as_slice();
+    let torn = torn_log(alloc, &worked)?;
+    let kept_fault = fault_of_shorter(alloc, &worked, kept)?;
+    check(kept_fault == Some(Fault::BadLsn(0)), "what is kept")?;
+    let cut_fault = fault_of_shorter(alloc, &worked, &torn)?;
+    let cut_at = kept.len() as u64;
+    check(cut_fault == Some(Fault::BadLsn(cut_at)), "what is cut off")
 }
 
 /// Fails a test if the fault is another one; or if the log is not continued and flushed; or if the

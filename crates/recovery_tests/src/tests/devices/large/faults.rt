@@ -1,12 +1,12 @@
 //! Logs, stores and options that are refused. Nothing is written then.
 
 use super::{
-    Left, OPTIONS, Paces, Worked, begun, is_untouched, left_in_memory, recovered,
+    Left, OPTIONS, Paces, Worked, begun, is_untouched, left_in_memory, left_of, recovered,
     worked_one_commit, worked_one_loser,
 };
 use aries::Options;
-use checks::{check, check_all};
-use device::MemorySource;
+use checks::{check, check_all, check_at};
+use device::{MemorySource, Pace};
 use page::{Fault, Page};
 use std::alloc::Global;
 use std::test::Fail;
@@ -62,6 +62,30 @@ fn spoiled_stores(rt: HostRuntime) -> Result<(), Fail> {
         let store = spoiled_store(alloc, place)?;
         let refused = store_refusal(alloc, &mut worked, store)?;
         check(refused == Some(fault), name)?;
+    }
+    Ok(())
+}
+
+/// A store with a spoiled header is read to its end, and its device fails at each read: 4 of the
+/// header, 147 of the page, and one that finds the end.
+#[test]
+fn a_spoiled_store_fails_at_each_read(rt: HostRuntime) -> Result<(), Fail> {
+    let alloc = rt.alloc();
+    let mut worked = worked_one_loser(alloc)?;
+    worked.before = spoiled_store(alloc, 7)?;
+    let bytes = worked.row.given.bytes.as_slice();
+    for call in 1..154u32 {
+        let paces = Paces {
+            store_source: Pace::failing(7, call),
+            ..Paces::fast()
+        };
+        let left = left_of(alloc, &worked, bytes, &paces)?;
+        let fault = match call {
+            153 => Fault::BadStoreHeader,
+            _ => Fault::ReadStore,
+        };
+        let is_refused = refusal(&left, bytes) == Some(fault);
+        check_at(call as usize, is_refused, "the fault of call")?;
     }
     Ok(())
 }

@@ -1,4 +1,5 @@
-use Rattle.std.proofs.Common.{◌≡◌, ◌+◌, ◌<◌, ◌≤◌, cond, eqb, ◌++◌, ◌∷◌, [], List, ℕ, length, map, Some, sym, ap, subst, ◌∙◌, arith}
+use Rattle.std.proofs.Common.{◌≡◌, ◌+◌, ◌<◌, ◌≤◌, cond, eqb, ◌++◌, ◌∷◌, [], List, ℕ, length, map, Some, sym, ap, ap₂, subst, ◌∙◌, arith}
+use Rattle.std.proofs.lemmas.Result.{err_from_is_err_and}
 use Rattle.std.proofs.lemmas.List.{map_push, length-map}
 use Rattle.std.proofs.lemmas.List.Elements.{All-push}
 use Rattle.wal.specs.Content.{content}
@@ -19,11 +20,13 @@ returns-in_err-insert-clause-last c =
     gathered_last inside.base inside.count c.insert.new.self.entries (map content c.push.new.self.items) ∙ sym (gathered_last inside.base inside.count inside.places.entries (map content inside.records.items)) ∙ ap (λ l. last_lsn (history l)) c.self.view_is
 
 pub returns-in_err-insert-clause-unchanged : goal.returns-in_err-insert-clause-unchanged
-returns-in_err-insert-clause-unchanged c = λ _.
+returns-in_err-insert-clause-unchanged c =
     let inside = c.self.inside in
-    ap (gathered_log inside.base inside.count c.insert.new.self.entries) (ap (map content) c.in_ok-push.ensures.items ∙ map_push content inside.records.items c.args.link)
-    ∙ gathered_same inside.base inside.count c.insert.new.self.entries (map content inside.records.items) (content c.args.link) c.self.invariant.placed
-    ∙ c.self.view_is
+    let exit = err_from_is_err_and c.from_residual-in_err-insert.result c.from_residual-in_err-insert.ensures.1 in
+    rw exit.1
+    (ap₂ (gathered_log inside.base inside.count) c.in_err-insert.ensures.err (ap (map content) c.in_ok-push.ensures.items ∙ map_push content inside.records.items c.args.link)
+    ∙ gathered_same inside.base inside.count inside.places.entries (map content inside.records.items) (content c.args.link) c.self.invariant.placed
+    ∙ c.self.view_is)
 
 pub returns-clause-base : goal.returns-clause-base
 returns-clause-base c =
