@@ -6,7 +6,7 @@ use super::both_ways::{
     rolled_back,
 };
 use checks::check;
-use page::{Fault, Page, decode_store};
+use page::{Fault, Page, Value, decode_store};
 use std::alloc::Global;
 use std::test::Fail;
 use std::thread::Threads;
@@ -14,7 +14,7 @@ use wal::Record;
 use worked_rows::held::Held;
 use worked_rows::ten_pages::{are_all_changed, ten_pages, ten_updates};
 use worked_rows::written::{
-    Letter, Row, Text, checkpoint_loser, clr_points_past_zero, one_commit, one_loser, page_with,
+    Row, Text, checkpoint_loser, clr_points_past_zero, one_commit, one_loser, page_with,
     partial_rollback_commit, two_losers,
 };
 
@@ -24,13 +24,57 @@ fn unchanged(given: Text) -> Result<Row, Fault> {
     Ok(Row { given, made })
 }
 
-/// What a restart must make of a row without losers: the page with this PageLSN, and this in slot
-/// 0.
-fn finished(lsn: u64, letter: Letter, redone: u64) -> Expected<'static> {
+/// The row `finished-rollback-commit`: transaction 1 was rolled back, and transaction 2 has
+/// committed.
+fn finished_rollback_commit(alloc: Global) -> Result<Text, Fault> {
+    let mut text = Text::new(alloc)?;
+    text.update(1, 0, 0, None, Some(b'x'))?;
+    text.abort(1, 1)?;
+    text.clr(1, 2, 0, 0, None)?;
+    text.end(1, 3)?;
+    text.update(2, 0, 0, None, Some(b'y'))?;
+    text.commit(2, 5)?;
+    Ok(text)
+}
+
+/// The shortest value in slot 0, and the longest in slot 1.
+fn shortest_and_longest() -> [Option<Value>; 2] {
+    [Value::new(b""), Value::new(&[b'z'; 48])]
+}
+
+/// The row `empty-and-full-values`.
+fn empty_and_full_values(alloc: Global) -> Result<Text, Fault> {
+    let [shortest, longest] = shortest_and_longest();
+    let mut text = Text::new(alloc)?;
+    for (prev, slot, after) in [(0, 0, shortest), (1, 1, longest)] {
+        text.put(&Record::Update {
+            tx: 1,
+            prev,
+            page: 0,
+            slot,
+            before: None,
+            after,
+        })?;
+    }
+    text.commit(1, 2)?;
+    Ok(text)
+}
+
+/// The page of that row after a restart.
+fn page_of_both() -> Page {
+    let [shortest, longest] = shortest_and_longest();
+    let mut page = Page::empty(0);
+    page.set(0, shortest, 1);
+    page.set(1, longest, 2);
+    page
+}
+
+/// What a restart must make of a row without losers: this page.
+fn finished(page: Page, redo_from: u64, redone: u64) -> Expected<'static> {
     Expected {
-        page: page_with(lsn, letter, None),
+        page,
         numbers: Numbers {
-            redo_from: 1,
+            redo_from,
             redone,
             losers: 0,
             compensated: 0,
@@ -43,30 +87,76 @@ fn finished(lsn: u64, letter: Letter, redone: u64) -> Expected<'static> {
 #[test]
 fn appends_nothing_without_losers(rt: HostRuntime) -> Result<(), Fail> {
     let alloc = rt.alloc();
-    let row = unchanged(partial_rollback_commit(alloc)?)?;
-    let expected = finished(3, Some(b'a'), 3);
-    let is_right = is_restarted(&rt, alloc, &row, 0, &expected)?;
-    check(is_right, "partial-rollback-commit")?;
-    let mut text = checkpoint_loser(alloc)?.given;
-    text.commit(1, 1)?;
-    let expected = finished(1, Some(b'a'), 1);
-    let is_right = is_restarted(&rt, alloc, &unchanged(text)?, 2, &expected)?;
-    check(is_right, "checkpoint-commit")?;
-    let row = unchanged(one_loser(alloc)?.made)?;
-    let page = page_with(2, None, None);
-    let expected = finished(2, None, 0);
-    let is_right = is_restarted_on(&rt, alloc, &row, 0, &page, &expected)?;
-    check(is_right, "restarted-result")
+    let of_a = |lsn, redone| finished(page_with(lsn, Some(b'a'), None), 1, redone);
+    let of_y = finished(page_with(5, Some(b'y'), None), 1, 3);
+    let mut listed = checkpoint_loser(alloc)?.given;
+    listed.commit(1, 1)?;
+    let rolled_back = finished_rollback_commit(alloc)?;
+    let values = empty_and_full_values(alloc)?;
+    for (name, text, master, expected) in [
+        (
+            "empty-log",
+            Text::new(alloc)?,
+            0,
+            finished(Page::empty(0), 0, 0),
+        ),
+        ("one-commit", one_commit(alloc, 0)?, 0, of_a(1, 1)),
+        (
+            "partial-rollback-commit",
+            partial_rollback_commit(alloc)?,
+            0,
+            of_a(3, 3),
+        ),
+        ("checkpoint-commit", listed, 2, of_a(1, 1)),
+        ("finished-rollback-commit", rolled_back, 0, of_y),
+        (
+            "empty-and-full-values",
+            values,
+            0,
+            finished(page_of_both(), 1, 2),
+        ),
+    ] {
+        let row = unchanged(text)?;
+        check(is_restarted(&rt, alloc, &row, master, &expected)?, name)?;
+    }
+    Ok(())
 }
 
 #[test]
 fn redoes_nothing_on_a_page_that_was_written(rt: HostRuntime) -> Result<(), Fail> {
     let alloc = rt.alloc();
-    let row = checkpoint_loser(alloc)?;
-    let page = page_with(1, Some(b'a'), None);
-    let expected = rolled_back(4, [0, 1, 1, 1]);
-    let is_right = is_restarted_on(&rt, alloc, &row, 2, &page, &expected)?;
-    check(is_right, "checkpoint-loser-flushed")
+    let written = page_with(1, Some(b'a'), None);
+    let after = page_with(2, None, None);
+    let restarted = unchanged(one_loser(alloc)?.made)?;
+    for (name, row, master, page, expected) in [
+        (
+            "loser-flushed",
+            one_loser(alloc)?,
+            0,
+            written,
+            rolled_back(2, [0, 1, 1, 1]),
+        ),
+        (
+            "checkpoint-loser-flushed",
+            checkpoint_loser(alloc)?,
+            2,
+            written,
+            rolled_back(4, [0, 1, 1, 1]),
+        ),
+        (
+            "restarted-result",
+            restarted,
+            0,
+            after,
+            finished(after, 1, 0),
+        ),
+    ] {
+        check(
+            is_restarted_on(&rt, alloc, &row, master, &page, &expected)?,
+            name,
+        )?;
+    }
+    Ok(())
 }
 
 /// What an interrupted restart was to make: the new log, and the page at each PageLSN that it can

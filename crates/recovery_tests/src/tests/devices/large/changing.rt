@@ -58,12 +58,7 @@ fn left_of_changed(alloc: Global, worked: &Worked, after: &[u8]) -> Result<Left,
 }
 
 /// Recovers a row from a log of these bytes, of which the last one is gone after some reads.
-fn left_of_shorter(
-    alloc: Global,
-    worked: &Worked,
-    bytes: &[u8],
-    reads: u32,
-) -> Result<Left, Fail> {
+fn left_of_shorter(alloc: Global, worked: &Worked, bytes: &[u8], reads: u32) -> Result<Left, Fail> {
     let mut left = begun(alloc, worked, bytes, &Paces::fast())?;
     let mut log = ChangingSource {
         before: MemorySource::new(bytes),
