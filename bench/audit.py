@@ -3,7 +3,7 @@
 
 usage: bench/audit.py [--program FILE] [--other FILE] [--turns N]
 
---program  the program that audits, crates/audit_times/out/audit_times if not said; `rt run` in crates/audit_times builds it
+--program  the program that audits, crates/times/out/times if not said; `rt run` in crates/times builds it
 --other    the same program of another commit, by which the times are divided
 --turns    how often each run is done, 7 if not said
 
@@ -21,7 +21,7 @@ import sys
 sys.dont_write_bytecode = True  # no folder of it beside the scripts
 from runs import Failure, run
 
-PROGRAM = os.path.join(os.path.dirname(os.path.dirname(os.path.abspath(__file__))), "crates/audit_times/out/audit_times")
+PROGRAM = os.path.join(os.path.dirname(os.path.dirname(os.path.abspath(__file__))), "crates/times/out/times")
 SIZES = (200_000, 2_000_000)
 NUMBERINGS = {"in order": 0, "multiples": 1, "at random": 2}
 ONCE, OFTEN = 1, 3
@@ -32,7 +32,7 @@ def seconds_of(program, transactions, numbering):
     walls = []
     for audits in (ONCE, OFTEN):
         said = f"audit {transactions} {numbering} {audits}: ".encode()
-        walls.append(run([program, str(transactions), str(numbering), str(audits)], said).wall)
+        walls.append(run([program, "audit", str(transactions), str(numbering), str(audits)], said).wall)
     return (walls[1] - walls[0]) / (OFTEN - ONCE)
 
 
@@ -65,7 +65,7 @@ def options_of_the_line():
         parser.error("--turns: at least 1")
     for program in filter(None, (options.program, options.other)):
         if not os.path.exists(program):
-            parser.error(f"{program} is missing: `rt run` in crates/audit_times builds it")
+            parser.error(f"{program} is missing: `rt run` in crates/times builds it")
     return options
 
 

@@ -3,7 +3,7 @@
 
 usage: bench/journal.py [--program FILE] [--turns N]
 
---program  the program that works, crates/journal_times/out/journal_times if not said; `rt run` in crates/journal_times builds it
+--program  the program that works, crates/times/out/times if not said; `rt run` in crates/times builds it
 --turns    how often each run is done, 7 if not said
 
 The program has 64 transactions which update cells of 4,096 pages in turn, 16 times each with values of 32 bytes, and commit. Before
@@ -19,14 +19,14 @@ import sys
 sys.dont_write_bytecode = True  # no folder of it beside the scripts
 from runs import Failure, run
 
-PROGRAM = os.path.join(os.path.dirname(os.path.dirname(os.path.abspath(__file__))), "crates/journal_times/out/journal_times")
+PROGRAM = os.path.join(os.path.dirname(os.path.dirname(os.path.abspath(__file__))), "crates/times/out/times")
 FEW, MANY = 2_000_000, 4_000_000
 PENDING = (1_024, 65_536)
 
 
 def seconds_of(program, updates, pending):
     """The seconds of a run, which has to say what it did."""
-    return run([program, str(updates), str(pending)], f"journal {updates} {pending}: ".encode()).wall
+    return run([program, "journal", str(updates), str(pending)], f"journal {updates} {pending}: ".encode()).wall
 
 
 def timed(program, turns):
@@ -52,7 +52,7 @@ def options_of_the_line():
     if options.turns < 1:
         parser.error("--turns: at least 1")
     if not os.path.exists(options.program):
-        parser.error(f"{options.program} is missing: `rt run` in crates/journal_times builds it")
+        parser.error(f"{options.program} is missing: `rt run` in crates/times builds it")
     return options
 
 

@@ -16,8 +16,8 @@ from collections import defaultdict, deque
 
 CRATES = os.path.join(os.path.dirname(os.path.dirname(os.path.abspath(__file__))), 'crates')
 # the crates that no run of these ways goes through: tests, programs over the journal, and a log that is read record by record
-TESTS = {'base_tests', 'log_tests', 'worked_rows', 'redo_tests', 'restart_tests', 'recovery_tests', 'row_files', 'workloads', 'audit_times'}
-OVER_JOURNAL = {'journal_recovery', 'journal_tests', 'crash_tests', 'journal_times', 'engine', 'seeded', 'cursor'}
+TESTS = {'base_tests', 'log_tests', 'worked_rows', 'redo_tests', 'restart_tests', 'recovery_tests', 'row_files', 'workloads'}
+OVER_JOURNAL = {'journal_recovery', 'journal_tests', 'crash_tests', 'times', 'engine', 'seeded', 'cursor'}
 # the crates that no recovery goes through: a method of theirs is only looked for in files of theirs
 APART = {'journal'}
 

@@ -16,7 +16,7 @@ sys.dont_write_bytecode = True  # no folder of it beside the tests
 from program import TOP, text_of
 
 TESTS = {"base_tests", "log_tests", "worked_rows", "redo_tests", "restart_tests", "recovery_tests", "journal_tests", "crash_tests",
-         "journal_times", "audit_times", "engine", "row_files", "workloads", "checks", "seeded"}
+         "times", "engine", "row_files", "workloads", "checks", "seeded"}
 
 # The sizes of the default profile, what is made of them, and their neighbours.
 NUMBERS = {4095, 4096, 4097, 1023, 1024, 1025, 15, 16, 17, 47, 48, 49, 64, 80, 255, 848, 944, 70681, 70685, 70697, 70701, 262144, 262160}

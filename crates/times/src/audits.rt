@@ -1,8 +1,9 @@
 //! A log of transactions that each make one update and commit, 64 at a time, and its audit.
 
+use crate::store::empty_store;
 use anyhow::{Error, Result};
 use audit::audit;
-use page::{Fault, Page, SLOTS, Store, Value, decode_store, encode_page, store_header};
+use page::{Fault, SLOTS, Value};
 use std::alloc::Global;
 use wal::{Record, plain_header, read_log, write_frame};
 
@@ -81,19 +82,9 @@ pub fn log_of(alloc: Global, transactions: u32, numbering: u32) -> Result<Vec<u8
     Ok(bytes)
 }
 
-/// A store of empty pages.
-fn empty_store(alloc: Global) -> Result<Store> {
-    let mut bytes = Vec::from_slice(alloc, &store_header(PAGES, 0))?;
-    for number in 0..PAGES {
-        bytes.extend_from_slice(&encode_page(&Page::empty(number)))?;
-    }
-    let store = decode_store(alloc, &bytes)?;
-    Ok(store)
-}
-
 /// Reads the log in these bytes and audits it with a store of empty pages. It has to be lawful.
 pub fn audited(alloc: Global, bytes: &[u8]) -> Result<()> {
-    let store = empty_store(alloc)?;
+    let store = empty_store(alloc, PAGES).map_err(failed)?;
     let (log, _) = read_log(alloc, bytes).map_err(failed)?;
     audit(alloc, &log, &store).map_err(failed)
 }

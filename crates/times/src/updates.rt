@@ -1,8 +1,9 @@
 //! What an engine does with a journal: transactions in turn, and one that stays open.
 
+use crate::store::empty_store;
 use anyhow::{Context, Error, Result};
 use journal::{Journal, Refusal};
-use page::{PAGES, Page, Store, Value, decode_store, encode_page, store_header};
+use page::{PAGES, Value};
 use std::alloc::Global;
 use wal::LogStart;
 
@@ -36,17 +37,6 @@ fn refused(refusal: Refusal) -> Error {
     Error::msg("the journal refused an operation")
 }
 
-/// A store of as many empty pages as one can have.
-fn empty_store(alloc: Global) -> Result<Store> {
-    let count = (PAGES & 0xffff_ffff) as u32;
-    let mut bytes = Vec::from_slice(alloc, &store_header(count, 0))?;
-    for number in 0..count {
-        bytes.extend_from_slice(&encode_page(&Page::empty(number)))?;
-    }
-    let store = decode_store(alloc, &bytes)?;
-    Ok(store)
-}
-
 /// A value of 32 bytes, which differs from turn to turn.
 fn value_of(turn: usize) -> Option<Value> {
     let mut bytes = [0; 32];
@@ -59,7 +49,8 @@ fn value_of(turn: usize) -> Option<Value> {
 
 impl Engine {
     fn new(alloc: Global) -> Result<Engine> {
-        let store = empty_store(alloc)?;
+        let count = (PAGES & 0xffff_ffff) as u32;
+        let store = empty_store(alloc, count)?;
         let journal = Journal::new(alloc, LogStart::Version1, &store).map_err(refused)?;
         Ok(Engine {
             journal,
