@@ -35,6 +35,14 @@ pub record AreWithin (marks : List Mark) : Type 0 where
   pub rising : (d : Mark) → (slice_index_or marks 0 d).lsn ≤ (slice_index_or marks (length marks - 1) d).lsn
   pub few : (d : Mark) → HEADER_BYTES + SMALLEST_FRAME * ((slice_index_or marks (length marks - 1) d).lsn - (slice_index_or marks 0 d).lsn) < 2 ^ 63
 
+-- a mark whose LSN is not below that of the last one of these
+abbrev pub IsNotBelow : List Mark → Mark → Type 0
+IsNotBelow marks next = (d : Mark) → (slice_index_or marks (length marks - 1) d).lsn ≤ next.lsn
+
+-- a mark whose LSN is at most so far above that of the first one of these
+abbrev pub IsWithinOf : (reach : ℕ) → List Mark → Mark → Type 0
+IsWithinOf reach marks next = (d : Mark) → next.lsn ≤ (slice_index_or marks 0 d).lsn + reach
+
 -- by how much the count of failures grows
 abbrev pub failures_of_pass : PassFault → ℕ
 failures_of_pass fault.Failed = 1

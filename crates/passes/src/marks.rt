@@ -4,7 +4,7 @@ ghost use Rattle.std.specs.Prelude.{◌≡◌, ◌⊎◌, ◌+◌, ◌-◌, ◌*
 ghost use Rattle.page.specs.declared.fault.Fault.TheVariants.{NoResource};
 ghost use Rattle.wal.specs.declared.sizes.TheConstants.{HEADER_BYTES, LARGEST_BASE, SMALLEST_FRAME};
 ghost use Rattle.pieces.specs.declared.mark.Mark.{Mark};
-ghost use Rattle.passes.specs.Marks.{IsLow, AreWithin};
+ghost use Rattle.passes.specs.Marks.{IsLow, IsNotBelow, IsWithinOf, AreWithin};
 
 use page::Fault;
 use pieces::Mark;
@@ -83,10 +83,8 @@ impl Marks {
     pub fn push(&mut self, mark: Mark) -> Result<(), Fault>
         ensures pushed { OnOk result (self.new ≡ self.old ++ mark ∷ []) }
         ensures low { OnOk result (IsLow mark) }
-        ensures rises { OnOk result ((d : Mark)
-            → (slice_index_or self.old (length self.old - 1) d).lsn ≤ mark.lsn) }
-        ensures near { OnOk result ((d : Mark)
-            → mark.lsn ≤ (slice_index_or self.old 0 d).lsn + 2 ^ 59) }
+        ensures rises { OnOk result (IsNotBelow self.old mark) }
+        ensures near { OnOk result (IsWithinOf (2 ^ 59) self.old mark) }
         ensures unchanged { OnErr result (self.new ≡ self.old) }
         ensures err { IsOkUnless result NoResource }
     {

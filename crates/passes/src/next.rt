@@ -1,16 +1,14 @@
 //! The piece after a mark, and the mark after the piece.
 
-ghost use Rattle.std.specs.Prelude.{◌≡◌, ◌⊎◌, ◌+◌, ◌-◌, ◌≤◌, ◌<◌, ◌^◌, ℕ, List, length, IfOk, IfErr, OnOk, Some};
+ghost use Rattle.std.specs.Prelude.{◌≡◌, ◌+◌, ◌-◌, ◌≤◌, ◌<◌, ◌^◌, ℕ, List, length, IfOk, IfErr, OnOk, Some};
 ghost use Rattle.std.specs.Io.KnownBytes.{Keeps};
-ghost use Rattle.page.specs.declared.fault.Fault.TheVariants.{BadLength};
 ghost use Rattle.log_laws.specs.Records.{LogContent, history, last_lsn, base_lsn};
 ghost use Rattle.wal.specs.Reads.{Reads};
 ghost use Rattle.wal.specs.declared.sizes.TheConstants.{BASED_HEADER_BYTES, LARGEST_BASE, LONGEST_FRAME};
 ghost use Rattle.pieces.specs.declared.mark.Mark.{Mark};
 ghost use Rattle.pieces.specs.Pieces.{IsMark};
-ghost use Rattle.passes.specs.declared.fault.PassFault.TheVariants as fault;
 ghost use Rattle.passes.specs.Marks.{failures_of_pass, IsResource, LogCause};
-ghost use Rattle.passes.specs.Next.{ComesNext, IsBefore};
+ghost use Rattle.passes.specs.Next.{ComesNext, IsBefore, PieceCause};
 
 use crate::PassFault;
 use device::Reread;
@@ -49,9 +47,7 @@ pub fn next_piece<'a, S: Reread>(
     ensures fault { IfErr result (λ e. (text : List ℕ) (before : LogContent)
         → S.text source.old ≡ Some text → IsMark text before mark
         → BASED_HEADER_BYTES + LONGEST_FRAME ≤ length room.old → LogCause text e) }
-    ensures any_room { IfErr result (λ e. (text : List ℕ) (before : LogContent)
-        → S.text source.old ≡ Some text → IsMark text before mark
-        → LogCause text e ⊎ (e ≡ fault.Fault (BadLength mark.offset))) }
+    ensures any_room { IfErr result (PieceCause (S.text source.old) mark) }
     ensures same { Keeps (S.text source.old) (S.text source.new) }
     ensures no_failure { OnOk result (S.failures source.new ≡ S.failures source.old) }
     ensures cause { IfErr result (λ e. S.failures source.new
