@@ -14,51 +14,49 @@ use worked_rows::written::{
     undo_of_missing_page,
 };
 
+/// Whether a restart on an empty page rolls back all transactions of a row: what it appends, the
+/// PageLSN, and how many records are redone, losers, CLRs and ends there are.
+fn rolls_back<R: Threads + Sync>(
+    rt: &R,
+    alloc: Global,
+    row: Row,
+    master: u64,
+    lsn: u64,
+    numbers: [u64; 4],
+) -> Result<bool, Fault> {
+    is_restarted(rt, alloc, &row, master, &rolled_back(lsn, numbers))
+}
+
 /// Losers that have updates, that were rolled back in part, and that a checkpoint lists.
 #[test]
 fn rolls_back_losers(rt: HostRuntime) -> Result<(), Fail> {
     let alloc = rt.alloc();
-    for (name, row, master, expected) in [
-        (
-            "one-loser",
-            one_loser(alloc)?,
-            0,
-            rolled_back(2, [1, 1, 1, 1]),
-        ),
-        (
-            "two-losers",
-            two_losers(alloc)?,
-            0,
-            rolled_back(7, [3, 2, 3, 2]),
-        ),
-        (
-            "partial-rollback-loser",
-            partial_rollback_loser(alloc)?,
-            0,
-            rolled_back(6, [4, 1, 2, 1]),
-        ),
-        (
-            "rollback-interrupted",
-            rollback_interrupted(alloc)?,
-            0,
-            rolled_back(5, [3, 1, 1, 1]),
-        ),
-        (
-            "several-kinds-of-loser",
-            several_kinds_of_loser(alloc)?,
-            0,
-            rolled_back(8, [3, 3, 1, 3]),
-        ),
-        (
-            "checkpoint-loser",
-            checkpoint_loser(alloc)?,
-            2,
-            rolled_back(4, [1, 1, 1, 1]),
-        ),
-    ] {
-        check(is_restarted(&rt, alloc, &row, master, &expected)?, name)?;
-    }
-    Ok(())
+    let is_right = rolls_back(&rt, alloc, one_loser(alloc)?, 0, 2, [1, 1, 1, 1])?;
+    check(is_right, "one-loser")?;
+    let is_right = rolls_back(&rt, alloc, two_losers(alloc)?, 0, 7, [3, 2, 3, 2])?;
+    check(is_right, "two-losers")?;
+    let is_right = rolls_back(
+        &rt,
+        alloc,
+        partial_rollback_loser(alloc)?,
+        0,
+        6,
+        [4, 1, 2, 1],
+    )?;
+    check(is_right, "partial-rollback-loser")?;
+    let is_right = rolls_back(&rt, alloc, rollback_interrupted(alloc)?, 0, 5, [3, 1, 1, 1])?;
+    check(is_right, "rollback-interrupted")?;
+    let is_right = rolls_back(
+        &rt,
+        alloc,
+        several_kinds_of_loser(alloc)?,
+        0,
+        8,
+        [3, 3, 1, 3],
+    )?;
+    check(is_right, "several-kinds-of-loser")?;
+    let is_right = rolls_back(&rt, alloc, checkpoint_loser(alloc)?, 2, 4, [1, 1, 1, 1])?;
+    check(is_right, "checkpoint-loser")
 }
 
 /// What losers did is undone in the same log as transactions in doubt, which are listed in

@@ -10,8 +10,10 @@ use checks::check;
 use page::{Fault, Page, encode_page};
 use std::alloc::Global;
 use std::test::Fail;
+use tables::Tables;
 use undo::{Looked, Place, records_of, undo, undo_on};
-use wal::{Record, read_log};
+use wal::{Log, Record, read_log};
+use worked_rows::held::{Held, change_all, no_changes};
 use worked_rows::written::{
     Row, Text, checkpoint_loser, one_loser, page_with, partial_rollback_loser,
     rollback_interrupted, several_kinds_of_loser, two_losers,
@@ -25,43 +27,61 @@ pub fn alone(alloc: Global, page: Page) -> Result<Vec<Page>, Fault>
     Ok(pages)
 }
 
-/// What undo makes of a page and appends, by the tables that analysis finds.
+/// What undo makes of a page, and what it appends.
 #[derive(Drop)]
 struct Rollback {
     pages: Vec<Page>,
     appended: Vec<Record>,
 }
 
-fn rolled_back(alloc: Global, log: &[u8], master: u64, page: Page) -> Result<Rollback, Fault> {
-    let (log, _) = read_log(alloc, log)?;
-    let tables = analyse(alloc, &log, master)?;
-    let (pages, appended) = undo(alloc, &log, &tables, alone(alloc, page)?)?;
+/// What undo makes of a page and appends, by these tables.
+fn undone(alloc: Global, log: &Log, tables: &Tables, page: Page) -> Result<Rollback, Fault> {
+    let (pages, appended) = undo(alloc, log, tables, alone(alloc, page)?)?;
     Ok(Rollback { pages, appended })
 }
 
-/// The same by way of changes: the page is not in memory while the losers are rolled back.
-fn rolled_back_on_changes(
+/// What undo appends by these tables, on these changes.
+fn appended_on(
+    alloc: Global,
+    log: &Log,
+    tables: &Tables,
+    changes: &mut Changes,
+) -> Result<Vec<Record>, Fault> {
+    let looked = Looked {
+        place: Place::Log(log),
+    };
+    let appended = undo_on(alloc, &looked, tables, changes)?;
+    records_of(alloc, &looked, &appended)
+}
+
+/// [`undone`] by way of changes, which are made to the page at the end.
+fn undone_on_changes(
+    alloc: Global,
+    log: &Log,
+    tables: &Tables,
+    page: Page,
+) -> Result<Rollback, Fault> {
+    let mut pages = alone(alloc, page)?;
+    let mut changes = no_changes(alloc, &pages)?;
+    let appended = appended_on(alloc, log, tables, &mut changes)?;
+    change_all(&changes, &mut pages);
+    Ok(Rollback { pages, appended })
+}
+
+/// What undo makes of a page and appends, by the tables that analysis finds.
+fn rolled_back(
     alloc: Global,
     log: &[u8],
     master: u64,
     page: Page,
+    held: Held,
 ) -> Result<Rollback, Fault> {
     let (log, _) = read_log(alloc, log)?;
     let tables = analyse(alloc, &log, master)?;
-    let mut lsns = Vec::new(alloc);
-    lsns.push(page.lsn)?;
-    let mut changes = Changes::begin(alloc, lsns)?;
-    let looked = Looked {
-        place: Place::Log(&log),
-    };
-    let appended = undo_on(alloc, &looked, &tables, &mut changes)?;
-    let appended = records_of(alloc, &looked, &appended)?;
-    let mut page = Page { number: 0, ..page };
-    if changes.len() > 0 {
-        changes.change(&mut page);
+    match held {
+        Held::Pages => undone(alloc, &log, &tables, page),
+        Held::Changes => undone_on_changes(alloc, &log, &tables, page),
     }
-    let pages = alone(alloc, page)?;
-    Ok(Rollback { pages, appended })
 }
 
 /// Whether there is one page, and it is empty except for this PageLSN.
@@ -81,9 +101,13 @@ fn is_made(row: &Row, rollback: &Rollback, lsn: u64) -> Result<bool, Fault> {
 /// Whether undo of the row's log, with this master and page, makes the row's new log, and makes the
 /// page an empty one with this PageLSN; and the same by way of changes.
 fn is_undone(alloc: Global, row: &Row, master: u64, before: Page, lsn: u64) -> Result<bool, Fault> {
-    let in_memory = rolled_back(alloc, &row.given.bytes, master, before)?;
-    let on_changes = rolled_back_on_changes(alloc, &row.given.bytes, master, before)?;
-    Ok(is_made(row, &in_memory, lsn)? && is_made(row, &on_changes, lsn)?)
+    for held in [Held::Pages, Held::Changes] {
+        let rollback = rolled_back(alloc, &row.given.bytes, master, before, held)?;
+        if !is_made(row, &rollback, lsn)? {
+            return Ok(false);
+        }
+    }
+    Ok(true)
 }
 
 #[test]
@@ -122,7 +146,8 @@ fn undoes_what_a_rollback_left(rt: HostRuntime) -> Result<(), Fail> {
 
 /// The fault of a log on a page.
 fn refused(alloc: Global, text: &Text) -> Option<Fault> {
-    match rolled_back(alloc, &text.bytes, 0, page_with(1, Some(b'a'), None)) {
+    let page = page_with(1, Some(b'a'), None);
+    match rolled_back(alloc, &text.bytes, 0, page, Held::Pages) {
         Ok(_) => None,
         Err(fault) => Some(fault),
     }
@@ -230,6 +255,6 @@ fn undoes_many_losers(rt: HostRuntime) -> Result<(), Fail> {
     }
     begin_checkpoints(&mut text)?;
     let page = page_with(100_000, None, None);
-    let rollback = rolled_back(rt.alloc(), &text.bytes, 0, page)?;
+    let rollback = rolled_back(rt.alloc(), &text.bytes, 0, page, Held::Pages)?;
     check(rollback.appended.len() == 110_000, "appended")
 }

@@ -24,6 +24,13 @@ fn unchanged(given: Text) -> Result<Row, Fault> {
     Ok(Row { given, made })
 }
 
+/// The row `checkpoint-commit`. The master is 2.
+fn checkpoint_commit(alloc: Global) -> Result<Text, Fault> {
+    let mut text = checkpoint_loser(alloc)?.given;
+    text.commit(1, 1)?;
+    Ok(text)
+}
+
 /// The row `finished-rollback-commit`: transaction 1 was rolled back, and transaction 2 has
 /// committed.
 fn finished_rollback_commit(alloc: Global) -> Result<Text, Fault> {
@@ -84,79 +91,61 @@ fn finished(page: Page, redo_from: u64, redone: u64) -> Expected<'static> {
     }
 }
 
+/// Whether a restart on an empty page leaves a log as it is, and makes what is expected.
+fn is_left<R: Threads + Sync>(
+    rt: &R,
+    alloc: Global,
+    text: Text,
+    master: u64,
+    expected: &Expected,
+) -> Result<bool, Fault> {
+    is_restarted(rt, alloc, &unchanged(text)?, master, expected)
+}
+
 #[test]
 fn appends_nothing_without_losers(rt: HostRuntime) -> Result<(), Fail> {
     let alloc = rt.alloc();
-    let of_a = |lsn, redone| finished(page_with(lsn, Some(b'a'), None), 1, redone);
-    let of_y = finished(page_with(5, Some(b'y'), None), 1, 3);
-    let mut listed = checkpoint_loser(alloc)?.given;
-    listed.commit(1, 1)?;
-    let rolled_back = finished_rollback_commit(alloc)?;
-    let values = empty_and_full_values(alloc)?;
-    for (name, text, master, expected) in [
-        (
-            "empty-log",
-            Text::new(alloc)?,
-            0,
-            finished(Page::empty(0), 0, 0),
-        ),
-        ("one-commit", one_commit(alloc, 0)?, 0, of_a(1, 1)),
-        (
-            "partial-rollback-commit",
-            partial_rollback_commit(alloc)?,
-            0,
-            of_a(3, 3),
-        ),
-        ("checkpoint-commit", listed, 2, of_a(1, 1)),
-        ("finished-rollback-commit", rolled_back, 0, of_y),
-        (
-            "empty-and-full-values",
-            values,
-            0,
-            finished(page_of_both(), 1, 2),
-        ),
-    ] {
-        let row = unchanged(text)?;
-        check(is_restarted(&rt, alloc, &row, master, &expected)?, name)?;
-    }
-    Ok(())
+    let expected = finished(Page::empty(0), 0, 0);
+    let is_right = is_left(&rt, alloc, Text::new(alloc)?, 0, &expected)?;
+    check(is_right, "empty-log")?;
+    let expected = finished(page_with(1, Some(b'a'), None), 1, 1);
+    let is_right = is_left(&rt, alloc, one_commit(alloc, 0)?, 0, &expected)?;
+    check(is_right, "one-commit")?;
+    let is_right = is_left(&rt, alloc, checkpoint_commit(alloc)?, 2, &expected)?;
+    check(is_right, "checkpoint-commit")?;
+    let expected = finished(page_with(3, Some(b'a'), None), 1, 3);
+    let is_right = is_left(&rt, alloc, partial_rollback_commit(alloc)?, 0, &expected)?;
+    check(is_right, "partial-rollback-commit")?;
+    let expected = finished(page_with(5, Some(b'y'), None), 1, 3);
+    let is_right = is_left(&rt, alloc, finished_rollback_commit(alloc)?, 0, &expected)?;
+    check(is_right, "finished-rollback-commit")?;
+    let expected = finished(page_of_both(), 1, 2);
+    let is_right = is_left(&rt, alloc, empty_and_full_values(alloc)?, 0, &expected)?;
+    check(is_right, "empty-and-full-values")
 }
 
 #[test]
 fn redoes_nothing_on_a_page_that_was_written(rt: HostRuntime) -> Result<(), Fail> {
     let alloc = rt.alloc();
     let written = page_with(1, Some(b'a'), None);
-    let after = page_with(2, None, None);
-    let restarted = unchanged(one_loser(alloc)?.made)?;
-    for (name, row, master, page, expected) in [
-        (
-            "loser-flushed",
-            one_loser(alloc)?,
-            0,
-            written,
-            rolled_back(2, [0, 1, 1, 1]),
-        ),
-        (
-            "checkpoint-loser-flushed",
-            checkpoint_loser(alloc)?,
-            2,
-            written,
-            rolled_back(4, [0, 1, 1, 1]),
-        ),
-        (
-            "restarted-result",
-            restarted,
-            0,
-            after,
-            finished(after, 1, 0),
-        ),
-    ] {
-        check(
-            is_restarted_on(&rt, alloc, &row, master, &page, &expected)?,
-            name,
-        )?;
-    }
-    Ok(())
+    let row = one_loser(alloc)?;
+    let expected = rolled_back(2, [0, 1, 1, 1]);
+    let is_right = is_restarted_on(&rt, alloc, &row, 0, &written, &expected)?;
+    check(is_right, "loser-flushed")?;
+    let row = checkpoint_loser(alloc)?;
+    let expected = rolled_back(4, [0, 1, 1, 1]);
+    let is_right = is_restarted_on(&rt, alloc, &row, 2, &written, &expected)?;
+    check(is_right, "checkpoint-loser-flushed")
+}
+
+#[test]
+fn restarts_on_its_own_result(rt: HostRuntime) -> Result<(), Fail> {
+    let alloc = rt.alloc();
+    let row = unchanged(one_loser(alloc)?.made)?;
+    let page = page_with(2, None, None);
+    let expected = finished(page, 1, 0);
+    let is_right = is_restarted_on(&rt, alloc, &row, 0, &page, &expected)?;
+    check(is_right, "restarted-result")
 }
 
 /// What an interrupted restart was to make: the new log, and the page at each PageLSN that it can
