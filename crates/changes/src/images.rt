@@ -11,7 +11,7 @@ ghost use Rattle.changes.specs.Images.{AreImagesFrom, HasBadImage};
 use crate::Changes;
 use crate::parts::count_slots;
 use byteorder::{BigEndian, ByteOrder};
-use page::{Fault, PAGE_BYTES, decode_page, encode_page};
+use page::{Fault, PAGE_BYTES, decode_page, encode_page_into};
 
 /// Where the PageLSN is in the image of a page.
 const LSN_AT: usize = 8;
@@ -43,7 +43,7 @@ fn put_slots(changes: &Changes, number: usize, image: &mut [u8]) -> Result<(), F
     let mut page = decode_page(stored, number as u32)?;
     let _slots = count_slots(&page.slots);
     changes.change(&mut page);
-    image.copy_from_slice(&encode_page(&page));
+    encode_page_into(&page, image);
     Ok(())
 }
 

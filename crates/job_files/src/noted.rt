@@ -63,6 +63,8 @@ pub enum Refusal {
     OtherOwner,
     /// It is a log that `aries_files` keeps.
     Kept,
+    /// It is a log whose LSNs may be too large to read it in pieces.
+    HighLsns,
 }
 
 impl fmt::Display for Refusal {
@@ -82,6 +84,7 @@ impl fmt::Display for Refusal {
                 "is kept by aries_files, by sums-N or pages beside it: \
                  open and close the folder with its own program"
             }
+            Refusal::HighLsns => "has LSNs near 2^63: recover it into new files",
         })
     }
 }

@@ -1,5 +1,5 @@
 -- Stores of which only the PageLSNs are read.
-use Rattle.std.proofs.Common.{◌≡◌, ℕ, ◌+◌, ◌*◌, ◌-◌, ◌%◌, ◌<◌, ◌≤◌, ◌^◌, List, [], ◌∷◌, ◌++◌, Bool, true, false, min, length, take, drop, sym, ap, subst, ◌∙◌, arith, refl}
+use Rattle.std.proofs.Common.{◌≡◌, ℕ, ◌+◌, ◌*◌, ◌-◌, ◌%◌, ◌<◌, ◌≤◌, ◌^◌, List, [], ◌∷◌, ◌++◌, Bool, true, false, min, length, take, drop, sym, ap, ap₂, subst, ◌∙◌, arith, refl}
 use Rattle.std.proofs.lemmas.List.{length-map, map-append}
 use Rattle.page.specs.declared.page.Page.{Page}
 use Rattle.page.specs.declared.profile.TheConstants.{PAGES, PAGE_BYTES}
@@ -26,13 +26,13 @@ pub lsns_first : (images more : List ℕ) (count : ℕ) (lsns : List ℕ) → le
 lsns_first images more count lsns whole lt r = (r.0, r.1, left_first images more count r.0 whole (omega (arith, lt, count_lsns lsns r.0 r.1)) r.2)
 
 -- the next image is a page
-pub lsns_more : (images rest behind image : List ℕ) (count : ℕ) (lsns new : List ℕ) (page : Page) → LsnsLeft images count lsns rest → length lsns < count → PAGE_BYTES ≤ length rest → image ≡ take PAGE_BYTES rest → behind ≡ drop PAGE_BYTES rest
-    → SpellsPage image page → page.number ≡ length lsns → new ≡ lsns ++ page.lsn ∷ [] → LsnsLeft images count new behind
-lsns_more images rest behind image count lsns new page l lt some ei eb s n e =
+pub lsns_more : (images rest behind image : List ℕ) (count : ℕ) (lsns new : List ℕ) (lsn : ℕ) (page : Page) → LsnsLeft images count lsns rest → length lsns < count → PAGE_BYTES ≤ length rest → image ≡ take PAGE_BYTES rest → behind ≡ drop PAGE_BYTES rest
+    → SpellsPage image page → page.number ≡ length lsns → lsn ≡ page.lsn → new ≡ lsns ++ lsn ∷ [] → LsnsLeft images count new behind
+lsns_more images rest behind image count lsns new lsn page l lt some ei eb s n el e =
     let same = count_lsns lsns l.0 l.1 in
     let one : List Page = page ∷ [] in (
       l.0 ++ one,
-      e ∙ ap (λ (xs : List ℕ). xs ++ page.lsn ∷ []) l.1 ∙ sym (map-append (λ (p : Page). p.lsn) l.0 one),
+      e ∙ ap₂ (λ (xs : List ℕ) n. xs ++ n ∷ []) l.1 el ∙ sym (map-append (λ (p : Page). p.lsn) l.0 one),
       read_more images rest behind image count l.0 (l.0 ++ one) page l.2 (omega (arith, lt, same)) some ei eb s (n ∙ same) refl,
     )
 

@@ -1,7 +1,7 @@
 -- The parts of a page's image.
-use Rattle.std.proofs.Common.{◌≡◌, ℕ, ◌<◌, ◌^◌, List, ◌++◌, length, take, drop, sym, ap, ◌∙◌, append_assoc, arith, refl}
+use Rattle.std.proofs.Common.{◌≡◌, ℕ, ◌<◌, ◌^◌, List, ◌++◌, length, take, drop, sym, ap, ap₂, ◌∙◌, append_assoc, arith, refl}
 use Rattle.std.specs.Int.{w32, w64, to_be_bytes}
-use Rattle.std.proofs.lemmas.List.{take_at, drop_at}
+use Rattle.std.proofs.lemmas.List.{take_at, drop_at, take-append-drop}
 use Rattle.page.specs.declared.page.Page.{Page}
 use Rattle.page.specs.Image.{Image, directory, header, body, SpellsPage}
 use Rattle.page.specs.Parts.{SpellsSlots}
@@ -46,3 +46,12 @@ page_of number lsn slots = record { number = number; lsn = lsn; slots = slots }
 -- a page of these parts is this page
 pub same_page : (page : Page) (number lsn : ℕ) (slots : List Image) → number ≡ page.number → lsn ≡ page.lsn → slots ≡ page.slots → page_of number lsn slots ≡ page
 same_page page number lsn slots en el es = ap (λ n. page_of n lsn slots) en ∙ ap (λ n. page_of page.number n slots) el ∙ ap (page_of page.number page.lsn) es
+
+-- a header and slots are a page
+pub page_spelled : (bytes front behind entries rest : List ℕ) (number lsn : ℕ) (slots : List Image) → front ≡ take PAGE_HEADER_BYTES bytes → behind ≡ drop PAGE_HEADER_BYTES bytes → entries ≡ take DIRECTORY_BYTES behind → rest ≡ drop DIRECTORY_BYTES behind
+    → front ≡ header number lsn → number < 2 ^ 32 → lsn < 2 ^ 64 → SpellsSlots entries rest slots → SpellsPage bytes (page_of number lsn slots)
+page_spelled bytes front behind entries rest number lsn slots ef eb ee er text nl ll s = record {
+  fits = record { number = nl; lsn = ll; slots = s.count; values = s.values };
+  text = sym (take-append-drop PAGE_HEADER_BYTES bytes) ∙ ap₂ (λ (x y : List ℕ). x ++ y) (sym ef ∙ text) (sym eb ∙ sym (take-append-drop DIRECTORY_BYTES behind) ∙ ap₂ (λ (x y : List ℕ). x ++ y) (sym ee ∙ s.directory) (sym er ∙ s.body))
+      ∙ sym (append_assoc (header number lsn) (directory CELLS_AT slots) (body slots));
+}

@@ -1,5 +1,5 @@
 -- What the loops of the decoder keep.
-use Rattle.std.proofs.Common.{◌≡◌, ℕ, ◌+◌, ◌*◌, ◌-◌, ◌<◌, ◌≤◌, List, [], ◌∷◌, ◌++◌, length, get_or, set, take, drop, replicate, Option, Some, All, sym, ap, ap₂, subst, ◌∙◌, arith, refl, append_assoc}
+use Rattle.std.proofs.Common.{◌≡◌, ℕ, ◌+◌, ◌*◌, ◌-◌, ◌<◌, ◌≤◌, List, [], ◌∷◌, ◌++◌, length, get_or, set, take, drop, replicate, Option, Some, None, All, sym, ap, ap₂, subst, ◌∙◌, arith, refl, append_assoc}
 use Rattle.std.proofs.Math.Seq.{take-add}
 use Rattle.std.specs.Prelude.{bit_or}
 use Rattle.std.specs.Int.Bits.{or_zero_l}
@@ -22,6 +22,27 @@ pub record ReadSoFar (entries bytes : List ℕ) (i end : ℕ) (slots : List Imag
   pub directory : take (4 * i) entries ≡ directory CELLS_AT (take i slots)
   pub cells : take end bytes ≡ cells (take i slots)
   pub only : (others : List Image) → SpellsSlots entries bytes others → take i others ≡ take i slots
+
+-- some first i slots are in front, whose cells end here
+abbrev pub SomeReadSoFar : (entries bytes : List ℕ) → (i end : ℕ) → Type 0
+SomeReadSoFar entries bytes i end = (slots : List Image) × ReadSoFar entries bytes i end slots
+
+-- no slot was read yet
+pub none_read : (entries bytes : List ℕ) → SomeReadSoFar entries bytes 0 0
+none_read entries bytes = (
+  replicate SLOTS None,
+  record {
+    count = length-replicate {A = Image} SLOTS None;
+    here = refl;
+    near = omega arith;
+    values = λ k d lt.
+        let none : ⊥ = omega (arith, lt) in
+        absurd none;
+    directory = refl;
+    cells = refl;
+    only = λ others s. refl;
+  },
+)
 
 -- a list at one place
 parts : (slots : List Image) (i : ℕ) (d : Image) → i < length slots → slots ≡ take i slots ++ get_or slots i d ∷ drop (i + 1) slots

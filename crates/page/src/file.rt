@@ -5,7 +5,7 @@ ghost use Rattle.page.specs.File.{store_header, store_text, FitsStore, BeginsWit
 ghost use Rattle.page.specs.declared.profile.TheConstants.{PAGE_BYTES};
 ghost use Rattle.page.specs.Images.{AreImages};
 
-use crate::image::put_page;
+use crate::image::encode_page_into;
 use crate::numbers::numbers_at;
 use crate::profile::{PAGE_BYTES, PAGES, STORE_MAGIC};
 use crate::sizes::{MAGIC_BYTES, STORE_HEADER_BYTES};
@@ -34,7 +34,7 @@ pub fn encode_pages_into(pages: &[Page], images: &mut [u8])
 {
     for number in 0..pages.len() {
         let place = PAGE_BYTES * number;
-        put_page(&pages[number], &mut images[place..place + PAGE_BYTES]);
+        encode_page_into(&pages[number], &mut images[place..place + PAGE_BYTES]);
     }
 }
 

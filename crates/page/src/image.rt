@@ -6,7 +6,7 @@ ghost use Rattle.page.specs.declared.page.Page.{Page};
 ghost use Rattle.page.specs.Image.{Image, entry, directory, header, body, page_text, FitsSlot, FitsPage, SpellsPage};
 ghost use Rattle.page.specs.declared.profile.TheConstants.{SLOTS, PAGE_BYTES};
 ghost use Rattle.page.specs.declared.sizes.TheConstants.{DIRECTORY_BYTES, CELLS_AT, ROOM_BYTES};
-ghost use Rattle.page.specs.Parts.{BeginsWithSlot, SpellsSlots};
+ghost use Rattle.page.specs.Parts.{BeginsWithSlot, SpellsSlots, IsLsnOf};
 
 use crate::numbers::numbers_at;
 use crate::profile::{PAGE_BYTES, SLOTS, VALUE_BYTES};
@@ -70,8 +70,8 @@ fn header(number: u32, lsn: u64) -> [u8; PAGE_HEADER_BYTES]
     header
 }
 
-/// Writes the image of a page.
-pub fn put_page(page: &Page, image: &mut [u8])
+/// Writes the image of a page, as [`encode_page`] does, over bytes of the same length.
+pub fn encode_page_into(page: &Page, image: &mut [u8])
     requires { length image.old ≡ PAGE_BYTES }
     ensures text { image.new ≡ page_text page.now }
     ensures fits { FitsPage page.now }
@@ -88,7 +88,7 @@ pub fn encode_page(page: &Page) -> [u8; PAGE_BYTES]
     ensures fits { FitsPage page.now }
 {
     let mut image = [0; PAGE_BYTES];
-    put_page(page, &mut image);
+    encode_page_into(page, &mut image);
     image
 }
 
@@ -160,6 +160,27 @@ fn slots_at(entries: &[u8], bytes: &[u8]) -> Option<[Option<Value>; SLOTS]>
     Some(slots)
 }
 
+/// Whether this directory and the bytes after it encode slots. Their values are not kept.
+fn are_slots(entries: &[u8], bytes: &[u8]) -> bool
+    requires entries { length entries.now ≡ DIRECTORY_BYTES }
+    requires bytes { length bytes.now ≡ ROOM_BYTES }
+    ensures { IsTrue result ↔ ((slots : List Image) × SpellsSlots entries.now bytes.now slots) }
+{
+    let mut end = 0;
+    for i in 0..SLOTS {
+        let (_, entry) = entries.split_at(4 * i);
+        let (_, rest) = bytes.split_at(end);
+        let Some(slot) = slot_at(entry, rest, (CELLS_AT + end) as u16) else {
+            return false;
+        };
+        if let Some(value) = &slot {
+            end += value.as_slice().len();
+        }
+    }
+    let (_, rest) = bytes.split_at(end);
+    is_zero(rest)
+}
+
 /// The page of this number that these bytes encode. `None` if they encode no such page.
 pub fn page_at(bytes: &[u8], number: u32) -> Option<Page>
     requires { length bytes.now ≡ PAGE_BYTES }
@@ -177,8 +198,29 @@ pub fn page_at(bytes: &[u8], number: u32) -> Option<Page>
     Some(Page { number, lsn, slots })
 }
 
+/// The PageLSN of the page of this number that these bytes encode. `None` if they encode no such
+/// page. All of them are looked at, as [`page_at`] does, but no value is copied.
+pub fn lsn_at(bytes: &[u8], number: u32) -> Option<u64>
+    requires { length bytes.now ≡ PAGE_BYTES }
+    ensures found { IfSome result (IsLsnOf bytes.now number) }
+    ensures only { (page : Page) → SpellsPage bytes.now page → page.number ≡ number
+        → result ≡ Some page.lsn }
+{
+    let (header, rest) = bytes.split_at(PAGE_HEADER_BYTES);
+    let (entries, body) = rest.split_at(DIRECTORY_BYTES);
+    let (own, zero, lsn) = numbers_at(header);
+    if own != number || zero != 0 {
+        return None;
+    }
+    if !are_slots(entries, body) {
+        return None;
+    }
+    Some(lsn)
+}
+
 /// The page of this number that the bytes encode. For any other image the error is
 /// `BadPage(number)`.
+#[inline(always)]
 pub fn decode_page(bytes: &[u8; PAGE_BYTES], number: u32) -> Result<Page, Fault>
     ensures found { IfOk result (λ page. SpellsPage bytes.now page × (page.number ≡ number)) }
     ensures only { (page : Page) → SpellsPage bytes.now page → page.number ≡ number

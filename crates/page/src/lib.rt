@@ -36,7 +36,7 @@ mod value;
 
 pub use fault::Fault;
 pub use file::{encode_pages_into, encode_store, encode_store_into, store_header};
-pub use image::{decode_page, encode_page};
+pub use image::{decode_page, encode_page, encode_page_into};
 pub use laws::{
     no_fault_of_a_store, numbers_of_stores, numbers_of_the_profile, one_page_spelling,
     one_store_fault, one_store_spelling,

@@ -11,7 +11,7 @@ ghost use Rattle.page.specs.Lsns.{AreLsnsOf, SpellsLsns, ReadsLsns};
 use crate::Fault;
 use crate::came::Came;
 use crate::file::header_at;
-use crate::image::decode_page;
+use crate::image::lsn_at;
 use crate::profile::PAGE_BYTES;
 use crate::sizes::STORE_HEADER_BYTES;
 use std::alloc::Global;
@@ -37,10 +37,10 @@ fn take_lsns(lsns: &mut Vec<u64>, count: u32, bad: bool, images: &[u8]) -> bool
         let Some((image, behind)) = rest.split_first_chunk::<PAGE_BYTES>() else {
             return false;
         };
-        let Ok(page) = decode_page(image, lsns.len() as u32) else {
+        let Some(lsn) = lsn_at(image, lsns.len() as u32) else {
             return true;
         };
-        lsns.push(page.lsn).unwrap();
+        lsns.push(lsn).unwrap();
         rest = behind;
     }
     false

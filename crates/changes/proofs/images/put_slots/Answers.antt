@@ -21,4 +21,4 @@ pub returns-clause-changed : goal.returns-clause-changed
 returns-clause-changed c = λ page d s n.
     let same : c.in_ok-page.page ≡ page = cc (c.in_ok-page.ensures.only page (as_stored _ _ page c.in-Some.ensures.cases.0 c.requires.whole s) n) in
     let new : c.change.new.page ≡ changed (get_or c.args.changes.now c.args.number d) page = c.change.ensures d ∙ ap (λ (p : Page). changed (get_or c.args.changes.now p.number d) p) same ∙ ap (λ k. changed (get_or c.args.changes.now k d) page) n in
-    record { fits = subst FitsPage new c.encode_page.ensures.fits; text = c.copy_from_slice.ensures.after ∙ c.encode_page.ensures.text ∙ ap page_text new }
+    record { fits = subst FitsPage new c.encode_page_into.ensures.fits; text = c.encode_page_into.ensures.text ∙ ap page_text new }

@@ -18,13 +18,13 @@ loop-rest-init c = (
       lsns_first before _ _ _ whole (omega (arith, c.if-len-count.false, c.len.ensures, c.args.lsns.now.ok.0)) r,
 )
 
-pub returns-in_default-decode_page-clause-read : goal.returns-in_default-decode_page-clause-read
-returns-in_default-decode_page-clause-read c = λ before whole r.
+pub returns-in_default-lsn_at-clause-read : goal.returns-in_default-lsn_at-clause-read
+returns-in_default-lsn_at-clause-read c = λ before whole r.
     let old = subst (λ b. LsnsAreRead before c.args.count c.args.lsns.now.items b) c.if-bad.false r in
     let l = c.loop-rest.invariant.1 before whole old in
     let here : c.len-in-loop-rest-2.result ≡ length c.loop-rest.lsns.items = omega (arith, c.len-in-loop-rest-2.ensures, c.loop-rest.lsns.ok.0) in
     lsns_bad _ _ _ _ _ l (omega (arith, here, c.len-in-loop-rest-2.ensures, c.len-in-loop-rest.ensures, c.loop-rest-test.true)) (omega (arith, c.in-Some.ensures.cases.2)) c.in-Some.ensures.cases.0
-    (λ page s n. c.in_default-decode_page.not-Ok _ (c.decode_page.ensures.only page s (n ∙ sym here)))
+    (λ page s n. c.in_default-lsn_at.not-Some _ (c.lsn_at.ensures.only page s (n ∙ sym here)))
 
 pub loop-rest-preserved : goal.loop-rest-preserved
 loop-rest-preserved c = (
@@ -32,6 +32,7 @@ loop-rest-preserved c = (
   λ before whole r.
       let l = c.loop-rest.invariant.1 before whole r in
       let here : c.len-in-loop-rest-2.result ≡ length c.loop-rest.lsns.items = omega (arith, c.len-in-loop-rest-2.ensures, c.loop-rest.lsns.ok.0) in
-      lsns_more _ _ _ _ _ _ _ c.in-Ok.page l (omega (arith, here, c.len-in-loop-rest-2.ensures, c.len-in-loop-rest.ensures, c.loop-rest-test.true)) (omega (arith, c.in-Some.ensures.cases.2)) c.in-Some.ensures.cases.0 c.in-Some.ensures.cases.1
-      c.in-Ok.ensures.found.0 (c.in-Ok.ensures.found.1 ∙ here) (search rules),
+      let found = c.in-Some-lsn_at.ensures.found in
+      lsns_more _ _ _ _ _ _ _ _ found.0 l (omega (arith, here, c.len-in-loop-rest-2.ensures, c.len-in-loop-rest.ensures, c.loop-rest-test.true)) (omega (arith, c.in-Some.ensures.cases.2)) c.in-Some.ensures.cases.0 c.in-Some.ensures.cases.1
+      found.1 (found.2 ∙ here) found.3 (search rules),
 )

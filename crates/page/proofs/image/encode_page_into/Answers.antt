@@ -3,7 +3,7 @@ use Rattle.std.proofs.lemmas.List.{length-take}
 use Rattle.page.specs.Image.{header, directory}
 use Rattle.page.proofs.Writing.{three_parts}
 use Rattle.page.proofs.Slots.{length-directory}
-use Rattle.page.proofs.image.put_page.Goals as goal
+use Rattle.page.proofs.image.encode_page_into.Goals as goal
 use Rattle.page.specs.declared.sizes.TheConstants.{CELLS_AT, PAGE_HEADER_BYTES, DIRECTORY_BYTES}
 
 pub copy_from_slice-requires : goal.copy_from_slice-requires
