@@ -1,6 +1,7 @@
 -- What a failed write leaves in front.
 use Rattle.std.proofs.Common.{◌≡◌, ℕ, Bool, true, false, cond, List, [], ◌∷◌, ◌++◌, length, take, refl, sym, ap, ◌∙◌, append_assoc}
-use Rattle.std.proofs.lemmas.List.{take_at, append-nil}
+use Rattle.std.proofs.lemmas.List.{take_at, append-nil, flat_map_more}
+use Rattle.std.specs.List.{flat_map}
 use Rattle.wal.specs.Content.{Keeps}
 
 pub keeps_same : (old : List ℕ) → Keeps old old
@@ -8,6 +9,9 @@ keeps_same old = record { more = []; is = sym (append-nil old) }
 
 pub keeps_then : (old mid new : List ℕ) → Keeps old mid → Keeps mid new → Keeps old new
 keeps_then old mid new a b = record { more = a.more ++ b.more; is = b.is ∙ ap (λ (x : List ℕ). x ++ b.more) a.is ∙ append_assoc old a.more b.more }
+
+pub keeps_equal : (old new : List ℕ) → new ≡ old → Keeps old new
+keeps_equal old new e = record { more = []; is = e ∙ sym (append-nil old) }
 
 pub keeps_is : (old more new : List ℕ) → new ≡ old ++ more → Keeps old new
 keeps_is old more new e = record { more = more; is = e }
@@ -32,3 +36,10 @@ head_three old head a b c m1 m2 m3 m4 p q r s = rw (s, r, q, p) (simp append_ass
 -- the parts of a frame's head
 pub head_parts : (old length lsn fields new : List ℕ) (kind : ℕ) → new ≡ old ++ ((length ++ (kind ∷ lsn)) ++ fields) → new ≡ old ++ (length ++ (kind ∷ lsn ++ fields))
 head_parts old length lsn fields new kind p = rw p (simp append_assoc)
+
+-- a table with one more entry
+pub table_more : {E : Type 0} (spell : E → List ℕ) (old count mid new : List ℕ) (entries : List E) (e : E) → mid ≡ old ++ (count ++ flat_map spell entries) → new ≡ mid ++ spell e
+    → new ≡ old ++ (count ++ flat_map spell (entries ++ e ∷ []))
+table_more spell old count mid new entries e p q =
+    q ∙ ap (λ (x : List ℕ). x ++ spell e) (p ∙ sym (append_assoc old count (flat_map spell entries)))
+    ∙ flat_map_more spell (old ++ count) entries e ∙ append_assoc old count (flat_map spell (entries ++ e ∷ []))

@@ -211,7 +211,6 @@ pub fn dirty_bytes(page: u32, rec_lsn: u64) -> [u8; DIRTY_BYTES]
     bytes
 }
 
-#[tactic(auto, using(crate::proofs::Keeping::keeps_same, crate::proofs::Keeping::keeps_then, crate::proofs::Keeping::keeps_if))]
 pub fn put_entries<A: Allocator>(
     out: &mut Vec<u8, A>,
     entries: &[(u32, Entry)],
@@ -237,7 +236,6 @@ fn put_dirty<A: Allocator>(out: &mut Vec<u8, A>, page: u32, rec_lsn: u64) -> Res
     Ok(())
 }
 
-#[tactic(auto, using(crate::proofs::Keeping::keeps_same, crate::proofs::Keeping::keeps_then, crate::proofs::Keeping::keeps_if))]
 pub fn put_dirties<A: Allocator>(
     out: &mut Vec<u8, A>,
     entries: &[(u32, u64)],

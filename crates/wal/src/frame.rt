@@ -153,7 +153,6 @@ pub fn body_view(bytes: &[u8]) -> Option<RecordView>
 }
 
 /// Appends the head of a frame, and the fields of its record.
-#[tactic(auto, using(crate::proofs::Keeping::keeps_same, crate::proofs::Keeping::keeps_then, crate::proofs::Keeping::keeps_if))]
 fn put_fields<A: Allocator>(
     out: &mut Vec<u8, A>,
     head: FrameHead,

@@ -3,7 +3,7 @@ use Rattle.std.specs.Int.{w32, w64, to_be_bytes}
 use Rattle.wal.specs.Spelling.{image, entry, dirty_page, table}
 use Rattle.wal.specs.Content.{entry_of}
 use Rattle.wal.specs.Head.{head_text}
-use Rattle.wal.proofs.Keeping.{head_cell, head_three}
+use Rattle.wal.proofs.Keeping.{keeps_equal, keeps_is, keeps_then, head_cell, head_three}
 use Rattle.wal.proofs.frame.put_fields.Goals as goal
 
 pub returns-in_ok-put_image-in-Update-2-clause-ok : goal.returns-in_ok-put_image-in-Update-2-clause-ok
@@ -29,3 +29,95 @@ returns-in_ok-put_dirties-in-CheckpointEnd-clause-ok g c =
     (c.in_ok-extend_from_slice-in-CheckpointEnd-2.ensures.items ∙ ap (λ (x : List ℕ). first ++ x) c.to_be_bytes-in-CheckpointEnd.ensures)
     (c.in_ok-put_entries-in-CheckpointEnd.ensures.ok ∙ ap (λ xs. second ++ table entry (map entry_of xs)) c.deref.ensures.value)
     (c.in_ok-put_dirties-in-CheckpointEnd.ensures.ok ∙ ap (λ xs. third ++ table dirty_page xs) c.deref-in-CheckpointEnd.ensures.value))
+
+pub returns-in_err-extend_from_slice-in-Update-clause-kept : goal.returns-in_err-extend_from_slice-in-Update-clause-kept
+returns-in_err-extend_from_slice-in-Update-clause-kept g c =
+    keeps_equal _ _ c.in_err-extend_from_slice-in-Update.ensures.items
+
+pub returns-in_err-extend_from_slice-in-Compensation-clause-kept : goal.returns-in_err-extend_from_slice-in-Compensation-clause-kept
+returns-in_err-extend_from_slice-in-Compensation-clause-kept g c =
+    keeps_equal _ _ c.in_err-extend_from_slice-in-Compensation.ensures.items
+
+pub returns-in_err-extend_from_slice-in-Commit-clause-kept : goal.returns-in_err-extend_from_slice-in-Commit-clause-kept
+returns-in_err-extend_from_slice-in-Commit-clause-kept g c =
+    keeps_equal _ _ c.in_err-extend_from_slice-in-Commit.ensures.items
+
+pub returns-in_err-extend_from_slice-in-Abort-clause-kept : goal.returns-in_err-extend_from_slice-in-Abort-clause-kept
+returns-in_err-extend_from_slice-in-Abort-clause-kept g c =
+    keeps_equal _ _ c.in_err-extend_from_slice-in-Abort.ensures.items
+
+pub returns-in_err-extend_from_slice-in-End-clause-kept : goal.returns-in_err-extend_from_slice-in-End-clause-kept
+returns-in_err-extend_from_slice-in-End-clause-kept g c =
+    keeps_equal _ _ c.in_err-extend_from_slice-in-End.ensures.items
+
+pub returns-in_err-extend_from_slice-in-Prepare-clause-kept : goal.returns-in_err-extend_from_slice-in-Prepare-clause-kept
+returns-in_err-extend_from_slice-in-Prepare-clause-kept g c =
+    keeps_equal _ _ c.in_err-extend_from_slice-in-Prepare.ensures.items
+
+pub returns-in_err-extend_from_slice-in-CheckpointBegin-clause-kept : goal.returns-in_err-extend_from_slice-in-CheckpointBegin-clause-kept
+returns-in_err-extend_from_slice-in-CheckpointBegin-clause-kept g c =
+    keeps_equal _ _ c.in_err-extend_from_slice-in-CheckpointBegin.ensures.items
+
+pub returns-in_err-extend_from_slice-in-CheckpointEnd-clause-kept : goal.returns-in_err-extend_from_slice-in-CheckpointEnd-clause-kept
+returns-in_err-extend_from_slice-in-CheckpointEnd-clause-kept g c =
+    keeps_equal _ _ c.in_err-extend_from_slice-in-CheckpointEnd.ensures.items
+
+pub returns-in_ok-extend_from_slice-in-Commit-clause-kept : goal.returns-in_ok-extend_from_slice-in-Commit-clause-kept
+returns-in_ok-extend_from_slice-in-Commit-clause-kept g c =
+    keeps_is _ _ _ c.in_ok-extend_from_slice-in-Commit.ensures.items
+
+pub returns-in_ok-extend_from_slice-in-Abort-clause-kept : goal.returns-in_ok-extend_from_slice-in-Abort-clause-kept
+returns-in_ok-extend_from_slice-in-Abort-clause-kept g c =
+    keeps_is _ _ _ c.in_ok-extend_from_slice-in-Abort.ensures.items
+
+pub returns-in_ok-extend_from_slice-in-End-clause-kept : goal.returns-in_ok-extend_from_slice-in-End-clause-kept
+returns-in_ok-extend_from_slice-in-End-clause-kept g c =
+    keeps_is _ _ _ c.in_ok-extend_from_slice-in-End.ensures.items
+
+pub returns-in_ok-extend_from_slice-in-Prepare-clause-kept : goal.returns-in_ok-extend_from_slice-in-Prepare-clause-kept
+returns-in_ok-extend_from_slice-in-Prepare-clause-kept g c =
+    keeps_is _ _ _ c.in_ok-extend_from_slice-in-Prepare.ensures.items
+
+pub returns-in_ok-extend_from_slice-in-CheckpointBegin-clause-kept : goal.returns-in_ok-extend_from_slice-in-CheckpointBegin-clause-kept
+returns-in_ok-extend_from_slice-in-CheckpointBegin-clause-kept g c =
+    keeps_is _ _ _ c.in_ok-extend_from_slice-in-CheckpointBegin.ensures.items
+
+pub returns-in_err-put_image-in-Update-clause-kept : goal.returns-in_err-put_image-in-Update-clause-kept
+returns-in_err-put_image-in-Update-clause-kept g c =
+    keeps_then _ _ _ (keeps_is _ _ _ c.in_ok-extend_from_slice-in-Update.ensures.items) c.in_err-put_image-in-Update.ensures.kept
+
+pub returns-in_err-put_image-in-Update-2-clause-kept : goal.returns-in_err-put_image-in-Update-2-clause-kept
+returns-in_err-put_image-in-Update-2-clause-kept g c =
+    keeps_then _ _ _ (keeps_then _ _ _ (keeps_is _ _ _ c.in_ok-extend_from_slice-in-Update.ensures.items) c.in_ok-put_image-in-Update.ensures.kept) c.in_err-put_image-in-Update-2.ensures.kept
+
+pub returns-in_ok-put_image-in-Update-2-clause-kept : goal.returns-in_ok-put_image-in-Update-2-clause-kept
+returns-in_ok-put_image-in-Update-2-clause-kept g c =
+    keeps_then _ _ _ (keeps_then _ _ _ (keeps_is _ _ _ c.in_ok-extend_from_slice-in-Update.ensures.items) c.in_ok-put_image-in-Update.ensures.kept) c.in_ok-put_image-in-Update-2.ensures.kept
+
+pub returns-in_err-extend_from_slice-in-Compensation-2-clause-kept : goal.returns-in_err-extend_from_slice-in-Compensation-2-clause-kept
+returns-in_err-extend_from_slice-in-Compensation-2-clause-kept g c =
+    keeps_then _ _ _ (keeps_is _ _ _ c.in_ok-extend_from_slice-in-Compensation.ensures.items) (keeps_equal _ _ c.in_err-extend_from_slice-in-Compensation-2.ensures.items)
+
+pub returns-in_err-put_image-in-Compensation-clause-kept : goal.returns-in_err-put_image-in-Compensation-clause-kept
+returns-in_err-put_image-in-Compensation-clause-kept g c =
+    keeps_then _ _ _ (keeps_then _ _ _ (keeps_is _ _ _ c.in_ok-extend_from_slice-in-Compensation.ensures.items) (keeps_is _ _ _ c.in_ok-extend_from_slice-in-Compensation-2.ensures.items)) c.in_err-put_image-in-Compensation.ensures.kept
+
+pub returns-in_ok-put_image-in-Compensation-clause-kept : goal.returns-in_ok-put_image-in-Compensation-clause-kept
+returns-in_ok-put_image-in-Compensation-clause-kept g c =
+    keeps_then _ _ _ (keeps_then _ _ _ (keeps_is _ _ _ c.in_ok-extend_from_slice-in-Compensation.ensures.items) (keeps_is _ _ _ c.in_ok-extend_from_slice-in-Compensation-2.ensures.items)) c.in_ok-put_image-in-Compensation.ensures.kept
+
+pub returns-in_err-extend_from_slice-in-CheckpointEnd-2-clause-kept : goal.returns-in_err-extend_from_slice-in-CheckpointEnd-2-clause-kept
+returns-in_err-extend_from_slice-in-CheckpointEnd-2-clause-kept g c =
+    keeps_then _ _ _ (keeps_is _ _ _ c.in_ok-extend_from_slice-in-CheckpointEnd.ensures.items) (keeps_equal _ _ c.in_err-extend_from_slice-in-CheckpointEnd-2.ensures.items)
+
+pub returns-in_err-put_entries-in-CheckpointEnd-clause-kept : goal.returns-in_err-put_entries-in-CheckpointEnd-clause-kept
+returns-in_err-put_entries-in-CheckpointEnd-clause-kept g c =
+    keeps_then _ _ _ (keeps_then _ _ _ (keeps_is _ _ _ c.in_ok-extend_from_slice-in-CheckpointEnd.ensures.items) (keeps_is _ _ _ c.in_ok-extend_from_slice-in-CheckpointEnd-2.ensures.items)) c.in_err-put_entries-in-CheckpointEnd.ensures.kept
+
+pub returns-in_err-put_dirties-in-CheckpointEnd-clause-kept : goal.returns-in_err-put_dirties-in-CheckpointEnd-clause-kept
+returns-in_err-put_dirties-in-CheckpointEnd-clause-kept g c =
+    keeps_then _ _ _ (keeps_then _ _ _ (keeps_then _ _ _ (keeps_is _ _ _ c.in_ok-extend_from_slice-in-CheckpointEnd.ensures.items) (keeps_is _ _ _ c.in_ok-extend_from_slice-in-CheckpointEnd-2.ensures.items)) c.in_ok-put_entries-in-CheckpointEnd.ensures.kept) c.in_err-put_dirties-in-CheckpointEnd.ensures.kept
+
+pub returns-in_ok-put_dirties-in-CheckpointEnd-clause-kept : goal.returns-in_ok-put_dirties-in-CheckpointEnd-clause-kept
+returns-in_ok-put_dirties-in-CheckpointEnd-clause-kept g c =
+    keeps_then _ _ _ (keeps_then _ _ _ (keeps_then _ _ _ (keeps_is _ _ _ c.in_ok-extend_from_slice-in-CheckpointEnd.ensures.items) (keeps_is _ _ _ c.in_ok-extend_from_slice-in-CheckpointEnd-2.ensures.items)) c.in_ok-put_entries-in-CheckpointEnd.ensures.kept) c.in_ok-put_dirties-in-CheckpointEnd.ensures.kept
