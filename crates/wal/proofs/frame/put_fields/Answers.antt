@@ -1,4 +1,5 @@
-use Rattle.std.proofs.Common.{ℕ, List, [], ◌∷◌, ◌++◌, map, ap, ◌∙◌}
+use Rattle.std.proofs.Common.{ℕ, List, [], ◌∷◌, ◌++◌, map, sym, ap, ◌∙◌}
+use Rattle.std.proofs.lemmas.List.{append-nil}
 use Rattle.std.specs.Int.{w32, w64, to_be_bytes}
 use Rattle.wal.specs.Spelling.{image, entry, dirty_page, table}
 use Rattle.wal.specs.Content.{entry_of}
@@ -121,3 +122,35 @@ returns-in_err-put_dirties-in-CheckpointEnd-clause-kept g c =
 pub returns-in_ok-put_dirties-in-CheckpointEnd-clause-kept : goal.returns-in_ok-put_dirties-in-CheckpointEnd-clause-kept
 returns-in_ok-put_dirties-in-CheckpointEnd-clause-kept g c =
     keeps_then _ _ _ (keeps_then _ _ _ (keeps_then _ _ _ (keeps_is _ _ _ c.in_ok-extend_from_slice-in-CheckpointEnd.ensures.items) (keeps_is _ _ _ c.in_ok-extend_from_slice-in-CheckpointEnd-2.ensures.items)) c.in_ok-put_entries-in-CheckpointEnd.ensures.kept) c.in_ok-put_dirties-in-CheckpointEnd.ensures.kept
+
+pub returns-in_ok-extend_from_slice-in-Commit-clause-ok : goal.returns-in_ok-extend_from_slice-in-Commit-clause-ok
+returns-in_ok-extend_from_slice-in-Commit-clause-ok g c =
+    rw c.in-Commit.is (c.in_ok-extend_from_slice-in-Commit.ensures.items ∙ ap (λ (x : List ℕ). c.args.out.now.items ++ x) c.with_plain.ensures)
+
+pub returns-in_ok-extend_from_slice-in-Abort-clause-ok : goal.returns-in_ok-extend_from_slice-in-Abort-clause-ok
+returns-in_ok-extend_from_slice-in-Abort-clause-ok g c =
+    rw c.in-Abort.is (c.in_ok-extend_from_slice-in-Abort.ensures.items ∙ ap (λ (x : List ℕ). c.args.out.now.items ++ x) c.with_plain-in-Abort.ensures)
+
+pub returns-in_ok-extend_from_slice-in-End-clause-ok : goal.returns-in_ok-extend_from_slice-in-End-clause-ok
+returns-in_ok-extend_from_slice-in-End-clause-ok g c =
+    rw c.in-End.is (c.in_ok-extend_from_slice-in-End.ensures.items ∙ ap (λ (x : List ℕ). c.args.out.now.items ++ x) c.with_plain-in-End.ensures)
+
+pub returns-in_ok-extend_from_slice-in-Prepare-clause-ok : goal.returns-in_ok-extend_from_slice-in-Prepare-clause-ok
+returns-in_ok-extend_from_slice-in-Prepare-clause-ok g c =
+    rw c.in-Prepare.is (c.in_ok-extend_from_slice-in-Prepare.ensures.items ∙ ap (λ (x : List ℕ). c.args.out.now.items ++ x) c.with_plain-in-Prepare.ensures)
+
+pub returns-in_ok-extend_from_slice-in-CheckpointBegin-clause-ok : goal.returns-in_ok-extend_from_slice-in-CheckpointBegin-clause-ok
+returns-in_ok-extend_from_slice-in-CheckpointBegin-clause-ok g c =
+    rw c.in-CheckpointBegin.is (c.in_ok-extend_from_slice-in-CheckpointBegin.ensures.items ∙ ap (λ (x : List ℕ). c.args.out.now.items ++ x) (c.bytes.ensures ∙ sym (append-nil (head_text c.args.head))))
+
+pub put_image-requires : goal.put_image-requires
+put_image-requires g c =
+    (rw c.in-Update.is at c.requires).before
+
+pub put_image-requires-in-Update : goal.put_image-requires-in-Update
+put_image-requires-in-Update g c =
+    (rw c.in-Update.is at c.requires).after
+
+pub put_image-requires-in-Compensation : goal.put_image-requires-in-Compensation
+put_image-requires-in-Compensation g c =
+    (rw c.in-Compensation.is at c.requires).image
