@@ -1,8 +1,9 @@
 //! The command line.
 
 ghost use Rattle.std.specs.Prelude.{◌≡◌, ◌≤◌, Some, IfErr, IfOk, codes, false, is_some, map, option_map};
-ghost use Rattle.std.specs.Prelude.{OnOk, Option, string_bytes, true};
+ghost use Rattle.std.specs.Prelude.{OnOk, Option, pos, string_bytes, true};
 ghost use Rattle.clap.specs.Words.{app_of, first_of, found_of, rows_of, rule_of, shape_of};
+ghost use Rattle.clap.specs.declared.builder.value_parser.ValueParser.TheVariants.{Signed};
 ghost use Rattle.command.specs.Job.{AsksFor, FileName, GivesNumbers, GivesOptions, HasFiles};
 ghost use Rattle.command.specs.Job.{HasFlag, HasNumbers, HasRanges, IsFaultless, IsNumberOf};
 ghost use Rattle.command.specs.Job.{NamesFiles, NamesNewStore, verbose_of};
@@ -14,6 +15,7 @@ ghost use Rattle.words.specs.Flags.{IsFlagOf};
 ghost use Rattle.words.specs.declared.refusal.Refusal.TheVariants.{Memory};
 
 use crate::help;
+use clap::builder::ValueParser;
 use clap::error::ErrorKind;
 use clap::{Arg, ArgMatches, Command, value_parser};
 use page::VERSION;
@@ -84,6 +86,13 @@ fn free_file_option<'a>(alloc: Global, name: &'a str, help: &'a str) -> Arg<'a>
         .help(help)
 }
 
+/// Reads a number of 1 to `most`.
+fn number_parser<'a>(most: u32) -> ValueParser<'a>
+    ensures { result ≡ Signed (pos 1) (pos most) }
+{
+    value_parser!(u32).range(1..=i64::from(most))
+}
+
 /// An option with a number of 1 to `most`. It may be left out, and then has its default, if there
 /// is one.
 fn number_option<'a>(
@@ -100,7 +109,7 @@ fn number_option<'a>(
     let option = Arg::new(alloc, name)
         .long(name)
         .value_name("N")
-        .value_parser(value_parser!(u32).range(1..=i64::from(most)))
+        .value_parser(number_parser(most))
         .help(help);
     match default {
         Some(text) => option.default_value(text),
@@ -112,63 +121,69 @@ fn number_option<'a>(
 fn recover_command<'a>(alloc: Global) -> Result<Command<'a>, AllocError>
     ensures { IfOk result (λ c. shape_of c ≡ recover_line) }
 {
-    Command::new(alloc, "recover")
-        .about("Recover a store and its log after a crash")
-        .override_usage(help::RECOVER_USAGE)
-        .after_help(help::RECOVER)
-        .arg(file_option(alloc, "log", "The log"))?
-        .arg(file_option(alloc, "store", "The store to recover"))?
-        .arg(free_file_option(alloc, "out-log", help::OUT_LOG))?
-        .arg(free_file_option(alloc, "out-store", help::OUT_STORE))?
-        .arg(flag_option(alloc, "in-place", help::IN_PLACE))?
-        .arg(flag_option(alloc, "replace", help::REPLACE))?
-        .arg(number_option(
+    let options = vec![in alloc;
+        file_option(alloc, "log", "The log"),
+        file_option(alloc, "store", "The store to recover"),
+        free_file_option(alloc, "out-log", help::OUT_LOG),
+        free_file_option(alloc, "out-store", help::OUT_STORE),
+        flag_option(alloc, "in-place", help::IN_PLACE),
+        flag_option(alloc, "replace", help::REPLACE),
+        number_option(
             alloc,
             "workers",
             WORKERS,
             None,
             "How many threads redo the pages if the log comes through a pipe, 1 to 64",
-        ))?
-        .arg(number_option(
+        ),
+        number_option(
             alloc,
             "parts",
             PARTS,
             Some("16"),
             "Into how many parts the pages are divided, 1 to 4096",
-        ))?
-        .arg(flag_option(alloc, "verbose", help::VERBOSE))
+        ),
+        flag_option(alloc, "verbose", help::VERBOSE),
+    ]?;
+    Command::new(alloc, "recover")
+        .about("Recover a store and its log after a crash")
+        .override_usage(help::RECOVER_USAGE)
+        .after_help(help::RECOVER)
+        .args(options)
 }
 
 /// The command `audit`.
 fn audit_command<'a>(alloc: Global) -> Result<Command<'a>, AllocError>
     ensures { IfOk result (λ c. shape_of c ≡ audit_line) }
 {
+    let options = vec![in alloc;
+        file_option(alloc, "log", "The log to check"),
+        file_option(alloc, "store", "The store to check"),
+        free_file_option(
+            alloc,
+            "base",
+            "The base store: what the pages held before the log's first record (without it, nothing)",
+        ),
+        flag_option(alloc, "verbose", help::VERBOSE),
+    ]?;
     Command::new(alloc, "audit")
         .about(
             "Check whether a log and a store keep the rules; if not, print the first that is broken",
         )
         .after_help(help::AUDIT)
-        .arg(file_option(alloc, "log", "The log to check"))?
-        .arg(file_option(alloc, "store", "The store to check"))?
-        .arg(free_file_option(
-            alloc,
-            "base",
-            "The base store: what the pages held before the log's first record (without it, nothing)",
-        ))?
-        .arg(flag_option(alloc, "verbose", help::VERBOSE))
+        .args(options)
 }
 
 /// The whole command line.
 fn aries_command<'a>(alloc: Global) -> Result<Command<'a>, AllocError>
     ensures { IfOk result (λ c. app_of c ≡ aries_line) }
 {
+    let commands = vec![in alloc; recover_command(alloc)?, audit_command(alloc)?]?;
     Command::new(alloc, "aries")
         .version(VERSION)
         .about("Crash recovery that is proved")
         .after_help(help::ARIES)
         .subcommand_required(true)
-        .subcommand(recover_command(alloc)?)?
-        .subcommand(audit_command(alloc)?)
+        .subcommands(commands)
 }
 
 /// The file name that an option gives. Such an option is required, so a line without it was
@@ -320,6 +335,29 @@ fn audit_job(alloc: Global, command: &mut Command, matches: &ArgMatches) -> Resu
     })
 }
 
+/// What the options of the command with this name ask for. `clap` rejects a line with another name
+/// before this is called.
+fn job_of(
+    alloc: Global,
+    command: &mut Command,
+    name: &str,
+    matches: &ArgMatches,
+) -> Result<Job, Refusal>
+    ensures files { IfOk result (NamesFiles name.now (rows_of (found_of matches.now))) }
+    ensures numbers { IfOk result (GivesNumbers (rows_of (found_of matches.now))) }
+    ensures verbose { IfOk result (λ job.
+        IsFlagOf (rows_of (found_of matches.now)) (codes "verbose") (verbose_of job)) }
+    ensures ranges { IfOk result HasRanges }
+    ensures refused { IfErr result (λ refusal. (job : Job)
+        → NamesFiles name.now (rows_of (found_of matches.now)) job → refusal ≡ Memory) }
+{
+    match name {
+        "recover" => recover_job(alloc, command, matches),
+        "audit" => audit_job(alloc, command, matches),
+        _ => Err(no_command(command)),
+    }
+}
+
 /// What a command line asks for; the first word is the program's name. The error is
 /// [`Refusal::Line`] if the line is wrong or asks for help or the version, and [`Refusal::Memory`]
 /// if memory was refused. A line asks for a job if `clap` finds no fault in it and its words give
@@ -339,9 +377,5 @@ pub fn command_of<'a>(alloc: Global, words: &'a [&'a str]) -> Result<Job, Refusa
     let Some((name, options)) = matches.subcommand() else {
         return Err(no_command(&mut command));
     };
-    match name {
-        "recover" => recover_job(alloc, &mut command, options),
-        "audit" => audit_job(alloc, &mut command, options),
-        _ => Err(no_command(&mut command)),
-    }
+    job_of(alloc, &mut command, name, options)
 }

@@ -1,9 +1,10 @@
-use Rattle.std.proofs.Common.{◌∙◌, ◌≡◌, ap, codes}
+use Rattle.std.proofs.Common.{◌∙◌, ◌≡◌, ap, codes, subst, List, [], ◌∷◌}
 use Rattle.std.proofs.lemmas.Result.{IfOk-weaker}
 use Rattle.clap.specs.Simple.{app_of_fields}
-use Rattle.clap.specs.Words.{App, app_of, new_app}
+use Rattle.clap.specs.declared.builder.arg.Arg.{Arg}
+use Rattle.clap.specs.Words.{AddsArg, AddsInTurn, App, app_of, new_app}
 use Rattle.command.specs.Line.{audit_line}
-use Rattle.words.proofs.Parses.{option_added}
+use Rattle.command.proofs.Options.{HaveRules, options_added}
 use Rattle.command.proofs.job.audit_command.Goals as goal
 
 pub returns : goal.returns
@@ -11,8 +12,23 @@ unfolding audit_line
 returns c =
     let about_is : app_of c.about.result ≡ new_app (codes "audit") = ap app_of_fields c.about.ensures ∙ c.new.ensures.app in
     let none : app_of c.after_help.result ≡ new_app (codes "audit") = ap app_of_fields c.after_help.ensures ∙ about_is in
-    let one = option_added _ _ _ _ _ c.in_ok-arg.ensures c.file_option.ensures.local none c.file_option.ensures.rule in
-    let two = option_added _ _ _ _ _ c.in_ok-arg-2.ensures c.file_option-2.ensures.local one c.file_option-2.ensures.rule in
-    let three = option_added _ _ _ _ _ c.in_ok-arg-3.ensures c.free_file_option.ensures.local two c.free_file_option.ensures.rule in
-    IfOk-weaker c.arg-4.result _ _ (λ command adds. ap (λ (a : App). a.top)
-    (option_added _ command _ _ _ adds c.flag_option.ensures.local three c.flag_option.ensures.rule)) c.arg-4.ensures
+    let options : List Arg = c.file_option.result ∷ c.file_option-2.result ∷ c.free_file_option.result ∷ c.flag_option.result ∷ [] in
+    let have : HaveRules options audit_line.rules = (
+      c.file_option.ensures.local,
+      c.file_option.ensures.rule,
+      (
+        c.file_option-2.ensures.local,
+        c.file_option-2.ensures.rule,
+        (
+          c.free_file_option.ensures.local,
+          c.free_file_option.ensures.rule,
+          (
+            c.flag_option.ensures.local,
+            c.flag_option.ensures.rule,
+            tt,
+          ),
+        ),
+      ),
+    ) in
+    IfOk-weaker c.args-2.result _ _ (λ command adds. ap (λ (a : App). a.top) (options_added _ command options _ audit_line.rules
+    (subst (λ (os : List Arg). AddsInTurn AddsArg c.after_help.result os command) c.in_ok-options.ensures.items adds) have none)) c.args-2.ensures
