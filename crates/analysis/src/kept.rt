@@ -2,7 +2,7 @@
 //! each at the place of its transaction's number modulo 256, where it is found at once. The table
 //! itself is not searched for a transaction above the highest number that it may hold.
 
-ghost use Rattle.std.specs.Prelude.{◌≡◌, ℕ, List, OnOk, IfErr, if◌then◌else◌, ◌==◌, true, false, Some, None, IsOkUnless, ◌≢◌};
+ghost use Rattle.std.specs.Prelude.{◌≡◌, ℕ, List, OnOk, IfErr, if◌then◌else◌, ◌==◌, Some, None, IsOkUnless, ◌≢◌};
 ghost use Rattle.page.specs.declared.fault.Fault.TheVariants.{NoResource};
 ghost use Rattle.wal.specs.declared.record.Entry.{Entry};
 ghost use Rattle.wal.specs.Content.{entry_of};
@@ -85,35 +85,6 @@ fn make_place(
     Ok(())
 }
 
-/// Changes the entry that is kept at the place of a transaction, if it is its own: to this state,
-/// LastLSN and UndoNxtLSN. Returns whether it is. The three fields are written one by one: to move a
-/// whole entry, its padding too, makes the next load wait for the stores before it.
-#[inline(always)]
-fn change_own(
-    kept: &mut [Option<(u32, Entry)>; PLACES],
-    tx: u32,
-    state: State,
-    last: u64,
-    undo_next: u64,
-) -> bool
-    requires { AreKept kept.old }
-    ensures own { result ≡ true → (t : ℕ) (entries : List (ℕ × Entry))
-        → held_entry t kept.new entries ≡ (if tx == t then Some
-        (record { tx = t; state = state; last = last; undo_next = undo_next }) else held_entry t kept.old entries) }
-    ensures other { result ≡ false → kept.new ≡ kept.old }
-    ensures kept { AreKept kept.new }
-{
-    if let Some((own, entry)) = &mut kept[tx as usize % PLACES] {
-        if *own == tx {
-            entry.state = state;
-            entry.last = last;
-            entry.undo_next = undo_next;
-            return true;
-        }
-    }
-    false
-}
-
 /// Keeps the entry of a transaction, as [`keep`] does, if another one may be at its place.
 #[inline(never)]
 fn keep_first(
@@ -144,7 +115,9 @@ fn keep_first(
     Ok(())
 }
 
-/// Keeps the entry of a transaction: this state, LastLSN and UndoNxtLSN.
+/// Keeps the entry of a transaction: this state, LastLSN and UndoNxtLSN. If it is at its place, the
+/// three fields are written one by one: to move a whole entry, its padding too, makes the next load
+/// wait for the stores before it.
 #[inline(always)]
 pub fn keep(
     transactions: &mut BTreeMap<u32, Entry>,
@@ -164,8 +137,13 @@ pub fn keep(
     ensures highest { HasNoneAbove highest.new transactions.new.entries }
     ensures err { IsOkUnless result NoResource }
 {
-    if change_own(kept, tx, state, last, undo_next) {
-        return Ok(());
+    if let Some((own, entry)) = &mut kept[tx as usize % PLACES] {
+        if *own == tx {
+            entry.state = state;
+            entry.last = last;
+            entry.undo_next = undo_next;
+            return Ok(());
+        }
     }
     keep_first(transactions, kept, highest, tx, state, last, undo_next)
 }
