@@ -85,36 +85,6 @@ fn make_place(
     Ok(())
 }
 
-/// Keeps the entry of a transaction, as [`keep`] does, if another one may be at its place.
-#[inline(never)]
-fn keep_first(
-    transactions: &mut BTreeMap<u32, Entry>,
-    kept: &mut [Option<(u32, Entry)>; PLACES],
-    highest: &mut u32,
-    tx: u32,
-    state: State,
-    last: u64,
-    undo_next: u64,
-) -> Result<(), Fault>
-    requires kept { AreKept kept.old }
-    requires highest { HasNoneAbove highest.old transactions.old.entries }
-    ensures ok { OnOk result ((t : ℕ) → held_entry t kept.new transactions.new.entries
-        ≡ (if tx == t then Some
-        (record { tx = t; state = state; last = last; undo_next = undo_next }) else held_entry t kept.old transactions.old.entries)) }
-    ensures kept { AreKept kept.new }
-    ensures highest { HasNoneAbove highest.new transactions.new.entries }
-    ensures err { IsOkUnless result NoResource }
-{
-    make_place(transactions, kept, highest, tx)?;
-    let entry = Entry {
-        state,
-        last,
-        undo_next,
-    };
-    kept[tx as usize % PLACES] = Some((tx, entry));
-    Ok(())
-}
-
 /// Keeps the entry of a transaction: this state, LastLSN and UndoNxtLSN. If it is at its place, the
 /// three fields are written one by one: to move a whole entry, its padding too, makes the next load
 /// wait for the stores before it.
@@ -145,7 +115,14 @@ pub fn keep(
             return Ok(());
         }
     }
-    keep_first(transactions, kept, highest, tx, state, last, undo_next)
+    make_place(transactions, kept, highest, tx)?;
+    let entry = Entry {
+        state,
+        last,
+        undo_next,
+    };
+    kept[tx as usize % PLACES] = Some((tx, entry));
+    Ok(())
 }
 
 /// Drops the entry of a transaction that is kept aside.

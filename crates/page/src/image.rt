@@ -1,6 +1,6 @@
 //! The image of a page: [`PAGE_BYTES`] bytes.
 
-ghost use Rattle.std.specs.Prelude.{◌≡◌, ◌≢◌, ◌<◌, ◌≤◌, ◌^◌, ◌↔◌, ◌++◌, List, All, IsTrue, IfSome, IfOk, IfErr, length, take, replicate};
+ghost use Rattle.std.specs.Prelude.{◌≡◌, ◌≢◌, ◌<◌, ◌≤◌, ◌^◌, ◌↔◌, ◌++◌, ℕ, List, All, IsTrue, IfSome, IfOk, IfErr, length, take, replicate};
 ghost use Rattle.std.specs.Int.{w16, w32, w64, to_be_bytes};
 ghost use Rattle.page.specs.declared.page.Page.{Page};
 ghost use Rattle.page.specs.Image.{Image, entry, directory, header, body, page_text, FitsSlot, FitsPage, SpellsPage};
@@ -173,7 +173,7 @@ fn are_slots(entries: &[u8], bytes: &[u8]) -> bool
         let Some(slot) = slot_at(entry, rest, (CELLS_AT + end) as u16) else {
             return false;
         };
-        if let Some(value) = &slot {
+        if let Some(value) = slot {
             end += value.as_slice().len();
         }
     }
@@ -203,13 +203,12 @@ pub fn page_at(bytes: &[u8], number: u32) -> Option<Page>
 pub fn lsn_at(bytes: &[u8], number: u32) -> Option<u64>
     requires { length bytes.now ≡ PAGE_BYTES }
     ensures found { IfSome result (IsLsnOf bytes.now number) }
-    ensures only { (page : Page) → SpellsPage bytes.now page → page.number ≡ number
-        → result ≡ Some page.lsn }
+    ensures only { (lsn : ℕ) → IsLsnOf bytes.now number lsn → result ≡ Some lsn }
 {
     let (header, rest) = bytes.split_at(PAGE_HEADER_BYTES);
     let (entries, body) = rest.split_at(DIRECTORY_BYTES);
     let (own, zero, lsn) = numbers_at(header);
-    if own != number || zero != 0 {
+    if zero != 0 || own != number {
         return None;
     }
     if !are_slots(entries, body) {

@@ -1,4 +1,4 @@
-use Rattle.std.proofs.Common.{◌≡◌, ◌∙◌, arith, rules, subst, sym, length, true, false}
+use Rattle.std.proofs.Common.{◌≡◌, ◌∙◌, arith, rules, subst, refl, sym, length, true, false}
 use Rattle.page.specs.Lsns.{LsnsAreRead}
 use Rattle.page.proofs.PageLsns.{lsns_stay, lsns_first, lsns_more, lsns_bad}
 use Rattle.page.proofs.lsns.take_lsns.Goals as goal
@@ -24,7 +24,7 @@ returns-in_default-lsn_at-clause-read c = λ before whole r.
     let l = c.loop-rest.invariant.1 before whole old in
     let here : c.len-in-loop-rest-2.result ≡ length c.loop-rest.lsns.items = omega (arith, c.len-in-loop-rest-2.ensures, c.loop-rest.lsns.ok.0) in
     lsns_bad _ _ _ _ _ l (omega (arith, here, c.len-in-loop-rest-2.ensures, c.len-in-loop-rest.ensures, c.loop-rest-test.true)) (omega (arith, c.in-Some.ensures.cases.2)) c.in-Some.ensures.cases.0
-    (λ page s n. c.in_default-lsn_at.not-Some _ (c.lsn_at.ensures.only page s (n ∙ sym here)))
+    (λ page s n. c.in_default-lsn_at.not-Some _ (c.lsn_at.ensures.only page.lsn (page, s, n ∙ sym here, refl)))
 
 pub loop-rest-preserved : goal.loop-rest-preserved
 loop-rest-preserved c = (
