@@ -168,10 +168,10 @@ CUTS = {
     'a large store': 'recovery/copying.rt:recover_copying recovery/by_pieces.rt:recover_by_pieces recovery/log_again.rt:read_store_first',
     'a recovery': 'aries/files.rt:audit_files aries/files.rt:read_file aries/program.rt:run_audit command/job.rt:audit_job',
     'new files': '''aries/in_place.rt aries/names.rt aries/left.rt aries/new_tail.rt recovery/in_place.rt recovery/tail_file.rt
-        aries/program.rt:name_and_run aries/program.rt:text_of LogBytes::sum_of_end LogBytes::torn_of LogBytes::sum''',
+        aries/program.rt:name_and_run aries/program.rt:text_of''',
     'in place': '''aries/program.rt:run_recovery aries/left.rt:continue_again NewTail::keep NewTail::torn NewTail::write_whole
         job_files/notices.rt''',
-    'in pieces': 'recovery/devices.rt:recover recovery/in_place.rt:recover_in_place',
+    'in pieces': 'recovery/devices.rt:recover',
     'in memory': 'recovery/copying.rt recovery/by_pieces.rt aries/files.rt:is_longer',
     'an audit': '''aries/program.rt:run_recovery aries/in_place.rt recovery/in_place.rt aries/program.rt:name_and_run
         command/job.rt:recover_job
@@ -191,17 +191,17 @@ CUTS = {
 FEW = ['nothing fails', 'no checkpoint', 'updates and commits alone are read']
 # each way: its name, the most functions that it is to have, where it begins, and what it does not take
 WAYS = [
-    ('recover, 3 records', 313, 'aries_cli/main.rt:main', FEW + ['a recovery', 'a small store', 'new files', 'in pieces', 'one worker']),
-    ('recover in place, 3 records', 356, 'aries_cli/main.rt:main', FEW + ['a recovery', 'a small store', 'in place', 'in pieces', 'one worker']),
-    ('recover, a large store', 317, 'aries_cli/main.rt:main', FEW + ['a recovery', 'a large store', 'new files', 'in pieces', 'one worker']),
-    ('recover in place, a large store', 360, 'aries_cli/main.rt:main', FEW + ['a recovery', 'a large store', 'in place', 'in pieces', 'one worker']),
-    ('recover in memory, 3 records, 1 worker', 283, 'aries_cli/main.rt:main', FEW + ['a recovery', 'a small store', 'new files', 'in memory', 'one worker']),
-    ('recover in memory, 3 records, 4 workers', 318, 'aries_cli/main.rt:main',
+    ('recover, 3 records', 315, 'aries_cli/main.rt:main', FEW + ['a recovery', 'a small store', 'new files', 'in pieces', 'one worker']),
+    ('recover in place, 3 records', 358, 'aries_cli/main.rt:main', FEW + ['a recovery', 'a small store', 'in place', 'in pieces', 'one worker']),
+    ('recover, a large store', 318, 'aries_cli/main.rt:main', FEW + ['a recovery', 'a large store', 'new files', 'in pieces', 'one worker']),
+    ('recover in place, a large store', 361, 'aries_cli/main.rt:main', FEW + ['a recovery', 'a large store', 'in place', 'in pieces', 'one worker']),
+    ('recover in memory, 3 records, 1 worker', 284, 'aries_cli/main.rt:main', FEW + ['a recovery', 'a small store', 'new files', 'in memory', 'one worker']),
+    ('recover in memory, 3 records, 4 workers', 319, 'aries_cli/main.rt:main',
      FEW + ['a recovery', 'a small store', 'new files', 'in memory', 'several workers', 'a short log']),
-    ('recover in memory, 100 MB with a checkpoint, 4 workers', 371, 'aries_cli/main.rt:main',
+    ('recover in memory, 100 MB with a checkpoint, 4 workers', 372, 'aries_cli/main.rt:main',
      ['nothing fails', 'a recovery', 'a small store', 'new files', 'in memory', 'several workers', 'a long log']),
     ('aries_recover (C)', 164, 'aries_c/recovered.rt:aries_recover', FEW + ['no threads']),
-    ('audit, with a checkpoint', 236, 'aries_cli/main.rt:main', ['nothing fails', 'an audit']),
+    ('audit, with a checkpoint', 238, 'aries_cli/main.rt:main', ['nothing fails', 'an audit']),
     ('aries_dump log', 157, 'aries_dump/main.rt:main', ['nothing fails', 'a log']),
     ('Journal::update', 48, 'journal/owned.rt:Journal::update', ['nothing fails']),
     ('journal::update, over arrays', 37, 'journal/operations.rt:update', ['nothing fails']),

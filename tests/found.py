@@ -108,6 +108,17 @@ def check_kinds(tally, room):
         tally.say("in place: a link to nothing in place of the file of the tail", is_well, ran.stderr)
 
 
+def check_high_lsns(tally, room):
+    """A log is read in pieces if none of its LSNs can pass 2^63 - 1. In place no other log is taken; into new files each is."""
+    log = b"ARIESLG2" + struct.pack(">Q", 2 ** 63 - 1)
+    files = {"log": log, "store": b"ARIESPG1" + struct.pack(">IIQ", 1, 0, 0) + bytes(1024)}
+    check_refusal(tally, room, "a log whose LSNs are near 2^63", files, ("log", "store"), WRITING, "recover it into new files")
+    with Place(room, files) as place:
+        ran = run([ARIES, "recover", "--log", place.at("log"), "--store", place.at("store"), "--out-log", place.at("new-log"), "--out-store", place.at("new-store")])
+        is_well = ran.returncode == 0 and place.files() == {**files, "new-log": log, "new-store": files["store"]}
+        tally.say("a log whose LSNs are near 2^63, into new files", is_well, shown(ran, place))
+
+
 def check_piped_store(tally, room):
     row = row_named("two-losers", room)
     with Place(room, {"log": before(row)["log"]}) as place:
@@ -360,7 +371,7 @@ def check_killed_engine(tally, room, library, is_all):
 
 def check_found(tally, room, is_all=False):
     library = library_of(room, "watch_calls")
-    for check in (check_names, check_links, check_kinds, check_piped_store, check_own_files, check_lock, check_two_runs, check_kept_folder, check_tail_beside, check_torn,
+    for check in (check_names, check_links, check_kinds, check_high_lsns, check_piped_store, check_own_files, check_lock, check_two_runs, check_kept_folder, check_tail_beside, check_torn,
                   check_owner, check_old_tails):
         check(tally, room)
     check_kills_and_cuts(tally, room, library, is_all)

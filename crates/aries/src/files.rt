@@ -65,7 +65,7 @@ pub struct NewFiles<'a> {
 }
 
 /// These options, with one worker if one worker may do all and the log has few bytes.
-pub fn options_for(options: &Options, may_be_one: bool, bytes: usize) -> Options {
+fn options_for(options: &Options, may_be_one: bool, bytes: usize) -> Options {
     let mut chosen = *options;
     if may_be_one && bytes < SHORT {
         chosen.workers = 1;

@@ -11,23 +11,21 @@
 ghost use Rattle.std.specs.Prelude.{◌≢◌};
 ghost use Rattle.page.specs.declared.fault.Fault.TheVariants.{NoResource};
 
-use crate::files::{Reading, options_for, reading_of};
+use crate::files::{Reading, reading_of};
 use crate::left::{Finished, finish, remove_left};
-use crate::names::{Opened, PlaceFiles, open_in_place};
+use crate::names::{Opened, PlaceFiles, open_in_place, turn_down};
 use crate::new_file::{make, refuse, remove, sync_folder, sync_found};
 use crate::new_tail::{Cut, NewTail, make_tail};
-use device::{FileLog, FileSink, FileSource, Source};
-use job_files::{Call, NotedFile, folder_of};
+use device::{FileLog, FileSink, FileSource};
+use job_files::{Call, NotedFile, Refusal, folder_of};
 use page::Fault;
-use recovery::{Report, recover_by_pieces, recover_in_place, recover_large_by_pieces};
-use redo::OpenGate;
+use recovery::{Report, recover_by_pieces, recover_large_by_pieces};
 use restart::Options;
 use std::alloc::Global;
 use std::cell::Cell;
 use std::fs::{self, File, Files, OpenFile};
 use std::os::unix::fs::MetadataExt;
 use std::rt::Clock;
-use std::thread::Threads;
 
 /// What a recovery in place has done.
 #[derive(Drop)]
@@ -64,13 +62,13 @@ fn make_store<R: Files<File = File>>(
 }
 
 /// Recovers from open files into new ones that were made, and continues the log.
-fn recover_made<'x, R: Files<File = File> + Clock + Threads + Sync>(
+fn recover_made<'x, R: Files<File = File> + Clock>(
     rt: &'x R,
     alloc: Global,
     files: &'x PlaceFiles<'x>,
     opened: Opened,
     (new_tail, new_store): (File, File),
-    (options, may_be_one): (&Options, bool),
+    options: &Options,
     cut: &'x Cell<Option<Cut>>,
 ) -> Result<Report, Fault> {
     let reading = reading_of(rt, alloc, &opened.log, &opened.store, &files.log)?;
@@ -105,20 +103,7 @@ fn recover_made<'x, R: Files<File = File> + Clock + Threads + Sync>(
             &mut out_store,
             options,
         ),
-        Reading::Whole => {
-            let options = options_for(options, may_be_one, log.hint());
-            recover_in_place(
-                rt,
-                alloc,
-                &mut log,
-                &mut store,
-                &mut tail,
-                &mut out_log,
-                &mut out_store,
-                &options,
-                &OpenGate,
-            )
-        }
+        Reading::Whole => Err(turn_down(&files.log, Refusal::HighLsns, Fault::WriteLog)),
     }
 }
 
@@ -136,17 +121,17 @@ fn place_store<R: Files<File = File>>(rt: &R, files: &PlaceFiles) -> Result<(), 
 
 /// Makes the new store, recovers, and puts the store in its place. After a fault the new store is
 /// gone.
-fn recover_opened<'x, R: Files<File = File> + Clock + Threads + Sync>(
+fn recover_opened<'x, R: Files<File = File> + Clock>(
     rt: &'x R,
     alloc: Global,
     files: &'x PlaceFiles<'x>,
     opened: Opened,
     new_tail: File,
-    how: (&Options, bool),
+    options: &Options,
     cut: &'x Cell<Option<Cut>>,
 ) -> Result<Report, Fault> {
     let new_store = make_store(rt, files, &opened.store)?;
-    let answer = recover_made(rt, alloc, files, opened, (new_tail, new_store), how, cut);
+    let answer = recover_made(rt, alloc, files, opened, (new_tail, new_store), options, cut);
     let answer = answer.and_then(|report| place_store(rt, files).map(|()| report));
     if answer.is_err() {
         let _ = fs::remove_file(rt, files.new_store.path);
@@ -155,13 +140,13 @@ fn recover_opened<'x, R: Files<File = File> + Clock + Threads + Sync>(
 }
 
 /// Finishes what an interrupted run began, and recovers. `new_tail` was made by this process.
-fn finish_and_recover<'x, R: Files<File = File> + Clock + Threads + Sync>(
+fn finish_and_recover<'x, R: Files<File = File> + Clock>(
     rt: &'x R,
     alloc: Global,
     files: &'x PlaceFiles<'x>,
     opened: Opened,
     new_tail: File,
-    how: (&Options, bool),
+    options: &Options,
 ) -> Result<Done, Fault> {
     let user = match new_tail.metadata() {
         Ok(metadata) => metadata.uid(),
@@ -169,7 +154,7 @@ fn finish_and_recover<'x, R: Files<File = File> + Clock + Threads + Sync>(
     };
     let finished = finish(rt, alloc, files, &opened.log, user)?;
     let cut = Cell::new(None);
-    let report = recover_opened(rt, alloc, files, opened, new_tail, how, &cut)?;
+    let report = recover_opened(rt, alloc, files, opened, new_tail, options, &cut)?;
     Ok(Done {
         report,
         finished,
@@ -191,11 +176,11 @@ fn finish_and_recover<'x, R: Files<File = File> + Clock + Threads + Sync>(
 /// they were, or as the run before would have left the log. If a large store is read once more and
 /// has a fault then (`ReadStore`, `StoreSize` or `BadPage`), the log is continued already, and the
 /// store is as it was.
-pub fn recover_files_in_place<'x, R: Files<File = File> + Clock + Threads + Sync>(
+pub fn recover_files_in_place<'x, R: Files<File = File> + Clock>(
     rt: &'x R,
     alloc: Global,
     files: &'x PlaceFiles<'x>,
-    how: (&Options, bool),
+    options: &Options,
 ) -> Result<Done, Fault> {
     let opened = open_in_place(rt, alloc, files)?;
     settle(rt, files, &opened)?;
@@ -204,7 +189,7 @@ pub fn recover_files_in_place<'x, R: Files<File = File> + Clock + Threads + Sync
         Err(error) => return Err(refuse(&files.out_log, Call::Lock, error, Fault::WriteLog)),
     };
     let new_tail = make_tail(rt, files, &opened.log)?;
-    let answer = finish_and_recover(rt, alloc, files, opened, new_tail, how);
+    let answer = finish_and_recover(rt, alloc, files, opened, new_tail, options);
     if answer.is_err() {
         let _ = fs::remove_file(rt, files.new_tail.path);
         return answer;

@@ -105,17 +105,17 @@ fn run_recovery<R: Files<File = File> + Clock + Threads + Sync, O: Write, E: Wri
 }
 
 /// Recovers in place, in files with these names.
-fn run_in_place<R: Files<File = File> + Clock + Threads + Sync, O: Write, E: Write>(
+fn run_in_place<R: Files<File = File> + Clock, O: Write, E: Write>(
     rt: &R,
     alloc: Global,
     names: &Names,
-    how: (&Options, bool),
+    options: &Options,
     verbose: bool,
     out: &mut O,
     err: &mut E,
 ) -> u8 {
     let files = PlaceFiles::new(names);
-    match recover_files_in_place(rt, alloc, &files, how) {
+    match recover_files_in_place(rt, alloc, &files, options) {
         Ok(done) => {
             if verbose {
                 tell_in_place(&files, err);
@@ -134,11 +134,11 @@ fn run_in_place<R: Files<File = File> + Clock + Threads + Sync, O: Write, E: Wri
 }
 
 /// Finds the names of a recovery in place, and recovers.
-fn name_and_run<'x, R: Files<File = File> + Clock + Threads + Sync, O: Write, E: Write>(
+fn name_and_run<'x, R: Files<File = File> + Clock, O: Write, E: Write>(
     rt: &R,
     alloc: Global,
     given: (&'x str, &'x str, Option<&'x str>),
-    how: (&Options, bool),
+    options: &Options,
     verbose: bool,
     out: &mut O,
     err: &mut E,
@@ -146,7 +146,7 @@ fn name_and_run<'x, R: Files<File = File> + Clock + Threads + Sync, O: Write, E:
     let (log, store, out_store) = given;
     let old = OldFiles::new(log, store, None);
     match Names::new(rt, alloc, &old, out_store) {
-        Ok(names) => run_in_place(rt, alloc, &names, how, verbose, out, err),
+        Ok(names) => run_in_place(rt, alloc, &names, options, verbose, out, err),
         Err(fault) => {
             if says_why(fault, verbose) && !tell_old(&old, err) {
                 tell_place(fault, &old, err);
@@ -188,11 +188,11 @@ fn run_job<R: Files<File = File> + Clock + Threads + Sync, O: Write, E: Write>(
             store,
             out_store,
             options,
-            may_be_one,
+            may_be_one: _,
             verbose,
         } => {
             let given = (log.as_str(), store.as_str(), text_of(out_store));
-            name_and_run(rt, alloc, given, (options, *may_be_one), *verbose, out, err)
+            name_and_run(rt, alloc, given, options, *verbose, out, err)
         }
         Job::Audit {
             log,

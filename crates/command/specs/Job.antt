@@ -5,6 +5,8 @@ use Rattle.clap.specs.Words.{Row, Text, fault_of, first_of, one_of, subcommand_o
 use Rattle.command.specs.declared.job.Job.{Job}
 use Rattle.command.specs.declared.job.Job.TheVariants.{Recover, RecoverInPlace, Audit}
 use Rattle.words.specs.Flags.{IsFlagOf}
+use Rattle.words.specs.declared.refusal.Refusal.{Refusal}
+use Rattle.words.specs.declared.refusal.Refusal.TheVariants.{Memory}
 use Rattle.command.specs.Line.{aries_line}
 use Rattle.restart.specs.Options.{AreInRange}
 use Rattle.restart.specs.declared.options.Options.{Options}
@@ -89,6 +91,14 @@ verbose_of (Recover log store out_log out_store options may_be_one verbose) = ve
 verbose_of (RecoverInPlace log store out_store options may_be_one verbose) = verbose
 verbose_of (Audit log store base verbose) = verbose
 
+-- a job is as verbose as these values of the command's options say
+abbrev pub SaysVerbose : (values : List Row) → Job → Type 0
+SaysVerbose values job = IsFlagOf values (codes "verbose") (verbose_of job)
+
+-- only values that name no files of a job are refused, if memory is not
+abbrev pub RefusesOthers : (command : Text) → (values : List Row) → Refusal → Type 0
+RefusesOthers command values refusal = (job : Job) → NamesFiles command values job → refusal ≡ Memory
+
 -- the job is verbose as the words say
 abbrev pub HasFlag : (words : List Text) → Job → Type 0
-HasFlag words job = IsSomeAnd (subcommand_of aries_line words) (λ found. IsFlagOf found.1 (codes "verbose") (verbose_of job))
+HasFlag words job = IsSomeAnd (subcommand_of aries_line words) (λ found. SaysVerbose found.1 job)

@@ -6,12 +6,11 @@ ghost use Rattle.clap.specs.Words.{app_of, first_of, found_of, rows_of, rule_of,
 ghost use Rattle.clap.specs.declared.builder.value_parser.ValueParser.TheVariants.{Signed};
 ghost use Rattle.command.specs.Job.{AsksFor, FileName, GivesNumbers, GivesOptions, HasFiles};
 ghost use Rattle.command.specs.Job.{HasFlag, HasNumbers, HasRanges, IsFaultless, IsNumberOf};
-ghost use Rattle.command.specs.Job.{NamesFiles, NamesNewStore, verbose_of};
+ghost use Rattle.command.specs.Job.{NamesFiles, NamesNewStore, RefusesOthers, SaysVerbose};
 ghost use Rattle.command.specs.Line.{aries_line, audit_line, file_rule, free_file_rule, number_rule};
 ghost use Rattle.command.specs.Line.{recover_line};
 ghost use Rattle.command.specs.declared.job.Job.{Job};
 ghost use Rattle.restart.specs.Options.{AreInRange};
-ghost use Rattle.words.specs.Flags.{IsFlagOf};
 ghost use Rattle.words.specs.declared.refusal.Refusal.TheVariants.{Memory};
 
 use crate::help;
@@ -281,11 +280,10 @@ fn new_store_of(alloc: Global, matches: &ArgMatches) -> Result<Option<String>, R
 fn recover_job(alloc: Global, command: &mut Command, matches: &ArgMatches) -> Result<Job, Refusal>
     ensures files { IfOk result (NamesFiles (codes "recover") (rows_of (found_of matches.now))) }
     ensures numbers { IfOk result (GivesNumbers (rows_of (found_of matches.now))) }
-    ensures verbose { IfOk result (λ job.
-        IsFlagOf (rows_of (found_of matches.now)) (codes "verbose") (verbose_of job)) }
+    ensures verbose { IfOk result (SaysVerbose (rows_of (found_of matches.now))) }
     ensures ranges { IfOk result HasRanges }
-    ensures refused { IfErr result (λ refusal. (job : Job)
-        → NamesFiles (codes "recover") (rows_of (found_of matches.now)) job → refusal ≡ Memory) }
+    ensures refused { IfErr result
+        (RefusesOthers (codes "recover") (rows_of (found_of matches.now))) }
 {
     let log = file_of(alloc, command, matches, "log")?;
     let store = file_of(alloc, command, matches, "store")?;
@@ -321,11 +319,10 @@ fn recover_job(alloc: Global, command: &mut Command, matches: &ArgMatches) -> Re
 fn audit_job(alloc: Global, command: &mut Command, matches: &ArgMatches) -> Result<Job, Refusal>
     ensures files { IfOk result (NamesFiles (codes "audit") (rows_of (found_of matches.now))) }
     ensures numbers { IfOk result (GivesNumbers (rows_of (found_of matches.now))) }
-    ensures verbose { IfOk result (λ job.
-        IsFlagOf (rows_of (found_of matches.now)) (codes "verbose") (verbose_of job)) }
+    ensures verbose { IfOk result (SaysVerbose (rows_of (found_of matches.now))) }
     ensures ranges { IfOk result HasRanges }
-    ensures refused { IfErr result (λ refusal. (job : Job)
-        → NamesFiles (codes "audit") (rows_of (found_of matches.now)) job → refusal ≡ Memory) }
+    ensures refused { IfErr result
+        (RefusesOthers (codes "audit") (rows_of (found_of matches.now))) }
 {
     Ok(Job::Audit {
         log: file_of(alloc, command, matches, "log")?,
@@ -345,11 +342,10 @@ fn job_of(
 ) -> Result<Job, Refusal>
     ensures files { IfOk result (NamesFiles name.now (rows_of (found_of matches.now))) }
     ensures numbers { IfOk result (GivesNumbers (rows_of (found_of matches.now))) }
-    ensures verbose { IfOk result (λ job.
-        IsFlagOf (rows_of (found_of matches.now)) (codes "verbose") (verbose_of job)) }
+    ensures verbose { IfOk result (SaysVerbose (rows_of (found_of matches.now))) }
     ensures ranges { IfOk result HasRanges }
-    ensures refused { IfErr result (λ refusal. (job : Job)
-        → NamesFiles name.now (rows_of (found_of matches.now)) job → refusal ≡ Memory) }
+    ensures refused { IfErr result
+        (RefusesOthers name.now (rows_of (found_of matches.now))) }
 {
     match name {
         "recover" => recover_job(alloc, command, matches),

@@ -63,10 +63,6 @@ holds_on (Some x) (Some y) held e same = ap (λ (t : List ℕ). Some t) (same �
 pub holds_more : (kept : ℕ) (frames held : List ℕ) (before after : Option (List ℕ)) → before ≡ Some held → Continues kept frames before after → after ≡ Some (take kept held ++ frames)
 holds_more kept frames held before after e continued = subst (λ b. Continues kept frames b after) e continued
 
--- THE NUMBER of bytes that are kept
-pub kept_count : (n torn : ℕ) (log kept : List ℕ) → n ≡ length kept → kept ≡ take (length log - torn) log → n ≡ length log - torn
-kept_count n torn log kept count is = omega (arith, count, ap length is, length-take (length log - torn) log)
-
 -- A CUT
 module _ {base : BasePages} {log store : List ℕ} (bytes : AreLawful base log store) (kept : ℕ) (frames new_store : List ℕ) (report : ReportContent)
     (recovers : Recovers log store (take kept log ++ frames) new_store report) (kept_is : kept ≡ length log - report.torn) (reads : Reads (take kept log ++ frames) (with_tail bytes.decoded.read) 0) where
@@ -115,12 +111,6 @@ pub left_in : {L S : Type 0} (log : Sink L) (a b : L) (store : Sink S) (c d : S)
 left_in log a b store c d made WriteLog h = (made, h)
 left_in log a b store c d made WriteStore h = (made, h)
 left_in log a b store c d made e h = absurd h
-
-pub nothing_left : {L S : Type 0} (out_log : Sink L) (a : L) (out_store : Sink S) (b : S) (log_left store_left : Option (List ℕ)) (log store : List ℕ) (options : Options) (e : Fault)
-    → RecoveryCause log store options e → IsLeftIn out_log a a out_store b b log_left store_left e
-nothing_left out_log a out_store b log_left store_left log store options WriteLog h = absurd ((never_sink log store options).0 h)
-nothing_left out_log a out_store b log_left store_left log store options WriteStore h = absurd ((never_sink log store options).1 h)
-nothing_left out_log a out_store b log_left store_left log store options e h = (Keeps-refl (out_log.taken a), Keeps-refl (out_store.taken b))
 
 -- THE FILE of the tail is written
 pub has_tail : {D : Type 0} {log_left store_left : Option (List ℕ)} (made : Prepares log_left store_left) (sink : Sink D) (old new : D) (text : List ℕ)

@@ -60,21 +60,6 @@ kept_is front back torn n m k long less rest =
           ∙ sym (take-append-le (length (front ++ back) - torn) front back (omega (arith, p.1, length-append front back))))
     ]
 
--- and of what is cut off
-pub torn_is : (front back : List ℕ) (torn n m k : ℕ) → n ≡ length front → m ≡ min n (torn - length back) → k ≡ length back - torn
-    → drop (n - m) front ++ drop k back ≡ drop (length (front ++ back) - torn) (front ++ back)
-torn_is front back torn n m k long less rest =
-    elim (leb_tells torn (length back)) [
-      | inl p ↦
-          (let all : length front + k ≡ length (front ++ back) - torn = omega (arith, rest, p.1, length-append front back) in
-          let gone : drop (n - m) front ≡ [] = nil_from_length (drop (n - m) front) (omega (arith, length-drop (n - m) front, long, less, p.1)) in
-          ap (λ (t : List ℕ). t ++ drop k back) gone ∙ sym (drop-append-add front back k) ∙ ap (λ j. drop j (front ++ back)) all)
-      | inr p ↦
-          (let none : k ≡ 0 = omega (arith, rest, p.1) in
-          let all : n - m ≡ length (front ++ back) - torn = omega (arith, long, less, p.1, length-append front back) in
-          ap (λ j. drop (n - m) front ++ drop j back) none ∙ sym (drop-append-le (n - m) front back (omega (arith, long))) ∙ ap (λ j. drop j (front ++ back)) all)
-    ]
-
 -- what holds for a result
 pub at_ok : {A P : Type 0} {x : A} (r : Result A Fault) → r ≡ Ok x → OnOk r P → P
 at_ok (Ok y) e h = h

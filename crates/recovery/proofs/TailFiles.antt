@@ -29,26 +29,6 @@ sum_more first sum next bytes i lt so_far is =
     is ∙ ap (λ s. (bit_xor s (get_or bytes i 0) * 0x0000_0100_0000_01b3) % 2 ^ 64) so_far
     ∙ sym (sum_on-append first (take i bytes) (get_or bytes i 0 ∷ [])) ∙ ap (sum_on first) (sym (take_more bytes i 0 lt))
 
--- THE END of bytes that are in two parts
-pub end_parts : (front back : List ℕ) (b m f : ℕ) → b ≡ length back - END_BYTES → m ≡ END_BYTES - length (drop b back) → f ≡ length front - m
-    → drop f front ++ drop b back ≡ end_of (front ++ back)
-end_parts front back b m f b_is m_is f_is =
-    let len = length-drop b back in
-    let both = length-append front back in
-    elim (cases_lt (length back) END_BYTES) [
-      | inl few ↦
-          (let none : b ≡ 0 = omega (arith, b_is, few) in
-          let whole : drop b back ≡ back = ap (λ n. drop n back) none in
-          let n : length (front ++ back) - END_BYTES ≡ f = omega (arith, f_is, m_is, len, none, few, both) in
-          let le : f ≤ length front = omega (arith, f_is) in
-          ap (λ (t : List ℕ). drop f front ++ t) whole ∙ sym (drop-append-le f front back le) ∙ ap (λ k. drop k (front ++ back)) (sym n))
-      | inr many ↦
-          (let n : length (front ++ back) - END_BYTES ≡ length front + b = omega (arith, b_is, many, both) in
-          let all : length front ≤ f = omega (arith, f_is, m_is, len, b_is, many) in
-          let gone : drop f front ≡ [] = nil_from_length (drop f front) (omega (arith, length-drop f front, all)) in
-          ap (λ (t : List ℕ). t ++ drop b back) gone ∙ sym (drop-append-add front back b) ∙ ap (λ k. drop k (front ++ back)) (sym n))
-    ]
-
 -- THE PARTS of the file
 pub tail_is : (log kept end cut : ℕ) (frames head sum : List ℕ) → head ≡ head_of log kept (length frames) end cut → sum ≡ to_be_bytes w64 (sum_of (front_of log kept end cut frames))
     → tail_text log kept end cut frames ≡ (head ++ frames) ++ sum

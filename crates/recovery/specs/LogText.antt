@@ -12,12 +12,9 @@ use Rattle.recovery.specs.declared.log_text.Known.TheVariants.{Nothing, Front, F
 abbrev pub text_of : LogText → List ℕ
 text_of text = text.front.items ++ drop text.from text.back.items
 
--- without a torn tail of this many bytes, and the tail
+-- without a torn tail of this many bytes
 abbrev pub kept_of : LogText → (torn : ℕ) → List ℕ
 kept_of text torn = take (length (text_of text) - torn) (text_of text)
-
-abbrev pub torn_of : LogText → (torn : ℕ) → List ℕ
-torn_of text torn = drop (length (text_of text) - torn) (text_of text)
 
 -- all that a source had left came after the first of these bytes
 pub record CameAfter {D : Type 0} (left : D → Option (List ℕ)) (old new : D) (first : ℕ) (bytes : List ℕ) : Type 0 where

@@ -178,9 +178,10 @@ pub fn make_by_pieces<L: Reread>(
     }
 }
 
-/// Recovers as [`recover_in_place`](crate::recover_in_place) does, but in the thread of the caller
-/// and without the whole log in memory: only 256 KiB of it are in memory at once, and the records
-/// that undo needs. What is written does not depend on that, nor on the options.
+/// Recovers as [`recover`](crate::recover) does, but continues the log in place, in the thread of the
+/// caller and without the whole log in memory: only 256 KiB of it are in memory at once, and the
+/// records that undo needs. What is written does not depend on that, nor on the options. Nothing of
+/// the log is copied.
 ///
 /// `store` is read first, to its end. Then `log` is read at offsets, piece by piece, as often as
 /// needed. A failure of `log` comes before all other faults of reading: before one of those is
@@ -190,7 +191,8 @@ pub fn make_by_pieces<L: Reread>(
 /// record and flushed; then what the recovery appends is appended and flushed; then the new store
 /// is written to `out_store` and flushed. Before the log is touched, all that is appended is
 /// written to `tail` and flushed, with the lengths of the log and two sums: the file of a tail,
-/// [`TailFile`](crate::TailFile).
+/// [`TailFile`](crate::TailFile). If the power fails while the log is continued, its end may hold
+/// anything; with this file the continuation can be made again.
 ///
 /// No one else may write the log during the call. Otherwise the fault may be one that the log never
 /// had, for example `BadLsn` with an offset, if bytes are gone that were there before.

@@ -4,7 +4,7 @@
 //! Entry points: [`recovery_alone`] from buffer to buffer, and [`recover`] over devices.
 //! [`recover_copying`] and, in place, [`recover_by_pieces`] hold a piece of the log in memory;
 //! [`recover_large_copying`] and [`recover_large_by_pieces`] a piece of the log and one of the
-//! store. [`recover_in_place`] holds the whole log.
+//! store.
 //!
 //! The promise: on lawful bytes the new log is the old one and its tail, and the new store has
 //! exactly the effects of the committed and in-doubt transactions. A recovery may be killed at any
@@ -20,8 +20,8 @@
 //! - `log_text`, `decoding`, `store_pieces`: the log read and decoded while the store is read
 //!   (`LogText`).
 //! - `log_bytes`: the bytes of the old log that are kept.
-//! - `in_place`, `tail_file`: `recover_in_place`, and the file by which a later run finishes it
-//!   (`InPlace`, `TailFile`).
+//! - `in_place`, `tail_file`: how a log is continued in place, and the file by which a later run
+//!   finishes it (`InPlace`, `TailFile`).
 //! - `by_pieces`, `log_again`, `reading`: `recover_by_pieces`, in place, with a piece of the log at
 //!   a time (`ByPieces`).
 //! - `copying`: `recover_copying`, into a new log, with a piece at a time (`Copying`).
@@ -55,7 +55,7 @@ mod unthreaded;
 pub use by_pieces::recover_by_pieces;
 pub use copying::recover_copying;
 pub use devices::{read_source, recover};
-pub use in_place::{continue_log, recover_in_place};
+pub use in_place::continue_log;
 pub use large_copying::recover_large_copying;
 pub use large_store::recover_large_by_pieces;
 pub use laws::{

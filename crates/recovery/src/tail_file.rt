@@ -36,16 +36,6 @@ pub fn sum_on(sum: u64, bytes: &[u8]) -> u64
     sum
 }
 
-/// The sum of the last [`END_BYTES`] of a log that is in two parts, or of all if there are fewer.
-pub fn sum_of_end(front: &[u8], back: &[u8]) -> u64
-    ensures { result ≡ sum_of (end_of (front.now ++ back.now)) }
-{
-    let (_, back) = back.split_at(back.len().saturating_sub(END_BYTES));
-    let more = END_BYTES - back.len();
-    let (_, front) = front.split_at(front.len().saturating_sub(more));
-    sum_on(sum_on(SUM_OF_NONE, front), back)
-}
-
 /// The number at an offset in the head.
 fn number_at(head: &[u8], offset: usize) -> u64
     requires { offset + NUMBER_BYTES ≤ length head.now }

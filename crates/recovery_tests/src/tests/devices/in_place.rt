@@ -1,14 +1,12 @@
 //! Recovery in place over devices that pass a few bytes a call, and fail.
 
 use super::{OPTIONS, Worked, worked_one_commit, worked_two_losers};
-use aries::{TailFile, recover_in_place};
+use aries::{TailFile, recover_by_pieces};
 use checks::{check, check_all, check_at};
 use device::{MemorySource, Pace, SlowSink};
 use page::Fault;
-use redo::OpenGate;
 use std::alloc::Global;
 use std::test::Fail;
-use std::thread::Threads;
 
 /// Room for the file of a tail.
 const ROOM: usize = 4096;
@@ -71,8 +69,7 @@ struct Left {
 }
 
 /// Recovers a row's store in place, from a log of these bytes.
-fn left_of<R: Threads + Sync>(
-    rt: &R,
+fn left_of(
     alloc: Global,
     worked: &Worked,
     bytes: &[u8],
@@ -85,8 +82,7 @@ fn left_of<R: Threads + Sync>(
         log: SlowSink::holding(alloc, bytes, room, sinks.log)?,
         store: SlowSink::new(alloc, worked.after.len(), sinks.store)?,
     };
-    let answer = recover_in_place(
-        rt,
+    let answer = recover_by_pieces(
         alloc,
         &mut MemorySource::new(bytes),
         &mut MemorySource::new(&worked.before),
@@ -94,7 +90,6 @@ fn left_of<R: Threads + Sync>(
         &mut left.log,
         &mut left.store,
         &OPTIONS,
-        &OpenGate,
     );
     left.answer = answer.map(|_| ());
     Ok(left)
@@ -132,10 +127,10 @@ fn is_tail_file(worked: &Worked, log: &[u8], bytes: &[u8]) -> bool {
 }
 
 /// Recovers a row in place, its log with and without a torn tail.
-fn check_row<R: Threads + Sync>(rt: &R, alloc: Global, worked: &Worked) -> Result<(), Fail> {
+fn check_row(alloc: Global, worked: &Worked) -> Result<(), Fail> {
     let torn = torn_log(alloc, worked)?;
     for bytes in [worked.row.given.bytes.as_slice(), torn.as_slice()] {
-        let left = left_of(rt, alloc, worked, bytes, Sinks::fast())?;
+        let left = left_of(alloc, worked, bytes, Sinks::fast())?;
         check_all(&[
             (is_whole(worked, &left), "recovered"),
             (
@@ -150,8 +145,8 @@ fn check_row<R: Threads + Sync>(rt: &R, alloc: Global, worked: &Worked) -> Resul
 #[test]
 fn rows_in_place(rt: HostRuntime) -> Result<(), Fail> {
     let alloc = rt.alloc();
-    check_row(&rt, alloc, &worked_one_commit(alloc)?)?;
-    check_row(&rt, alloc, &worked_two_losers(alloc)?)
+    check_row(alloc, &worked_one_commit(alloc)?)?;
+    check_row(alloc, &worked_two_losers(alloc)?)
 }
 
 /// The file of a tail that was not written to its end is not accepted.
@@ -159,7 +154,7 @@ fn rows_in_place(rt: HostRuntime) -> Result<(), Fail> {
 fn a_torn_tail_file_is_none(rt: HostRuntime) -> Result<(), Fail> {
     let alloc = rt.alloc();
     let worked = worked_two_losers(alloc)?;
-    let left = left_of(&rt, alloc, &worked, &worked.row.given.bytes, Sinks::fast())?;
+    let left = left_of(alloc, &worked, &worked.row.given.bytes, Sinks::fast())?;
     let whole = left.tail.bytes();
     for length in 0..whole.len() {
         let (front, _) = whole.split_at(length);
@@ -170,8 +165,7 @@ fn a_torn_tail_file_is_none(rt: HostRuntime) -> Result<(), Fail> {
 
 /// After a fault of a sink the log is as it was, or continued by a prefix of its tail, and a
 /// recovery in place of that ends as the first would have.
-fn check_left<R: Threads + Sync>(
-    rt: &R,
+fn check_left(
     alloc: Global,
     worked: &Worked,
     read: &[u8],
@@ -187,13 +181,12 @@ fn check_left<R: Threads + Sync>(
         left.store.bytes().is_empty() || log == new_log,
         "the store after call",
     )?;
-    let again = left_of(rt, alloc, worked, log, Sinks::fast())?;
+    let again = left_of(alloc, worked, log, Sinks::fast())?;
     check_at(call as usize, is_whole(worked, &again), "gone on from call")
 }
 
 /// How many calls fail, each with this fault, before one at which the recovery succeeds.
-fn failing_calls<R: Threads + Sync>(
-    rt: &R,
+fn failing_calls(
     alloc: Global,
     worked: &Worked,
     fault: Fault,
@@ -201,7 +194,7 @@ fn failing_calls<R: Threads + Sync>(
 ) -> Result<u32, Fail> {
     let read = torn_log(alloc, worked)?;
     for call in 1..1000u32 {
-        let left = left_of(rt, alloc, worked, &read, sink.fails_at(call))?;
+        let left = left_of(alloc, worked, &read, sink.fails_at(call))?;
         if left.answer.is_ok() {
             check(is_whole(worked, &left), "recovered")?;
             return Ok(call - 1);
@@ -211,7 +204,7 @@ fn failing_calls<R: Threads + Sync>(
             left.answer == Err(fault),
             "the fault of call",
         )?;
-        check_left(rt, alloc, worked, &read, &left, call)?;
+        check_left(alloc, worked, &read, &left, call)?;
     }
     Err(Fail::new("no end"))
 }
@@ -222,9 +215,9 @@ fn failing_calls<R: Threads + Sync>(
 fn each_sink_in_place_fails_at_each_call(rt: HostRuntime) -> Result<(), Fail> {
     let alloc = rt.alloc();
     let worked = worked_two_losers(alloc)?;
-    let tail = failing_calls(&rt, alloc, &worked, Fault::WriteLog, Sink::Tail)?;
-    let log = failing_calls(&rt, alloc, &worked, Fault::WriteLog, Sink::Log)?;
-    let store = failing_calls(&rt, alloc, &worked, Fault::WriteStore, Sink::Store)?;
+    let tail = failing_calls(alloc, &worked, Fault::WriteLog, Sink::Tail)?;
+    let log = failing_calls(alloc, &worked, Fault::WriteLog, Sink::Log)?;
+    let store = failing_calls(alloc, &worked, Fault::WriteStore, Sink::Store)?;
     check_all(&[
         (tail == 34, "calls of the tail's file"),
         (log == 27, "calls of the log"),
