@@ -1,4 +1,4 @@
-use Rattle.std.proofs.Common.{◌≡◌, true, map, ◌<◌, ◌-◌, ℕ, List, length, get_or, take, refl, sym, ap, subst, ◌∙◌, arith}
+use Rattle.std.proofs.Common.{◌≡◌, true, map, ◌<◌, ◌-◌, ℕ, List, length, get_or, take, refl, sym, ap, subst, ◌∙◌, arith, le_refl}
 use Rattle.std.specs.List.{remove}
 use Rattle.std.proofs.lemmas.List.{get_or-take, length-take}
 use Rattle.std.proofs.lemmas.Result.{err_from_is_err_and}
@@ -44,19 +44,36 @@ returns-clause-written c = λ base run pages pending h.
     let plain = subst (λ n. IsWritten (Commit (record { tx = c.args.tx; prev = n })) c.in_ok-lsn.lsn c.args.out.now c.put_plain.new.out 25) prev (c.put_plain.ensures.written (Commit (record { tx = c.args.tx; prev = (get_or ts place no_entry).last })) (refl, refl)) in
     subst (λ n. IsWritten (Commit (record { tx = c.args.tx; prev = last_of c.args.tx (log_of run) })) n c.args.out.now c.put_plain.new.out 25) c.in_ok-lsn.ensures.ok plain
 
-pub returns-in_err-place-clause-refused : goal.returns-in_err-place-clause-refused
-returns-in_err-place-clause-refused c =
+pub returns-in_err-place : goal.returns-in_err-place
+returns-in_err-place c =
     let exit = err_from_is_err_and c.from_residual-in_err-place.result c.from_residual-in_err-place.ensures.1 in
     let ts : List TransactionEntry = c.args.transactions.now in
     let e : take c.in_ok-count.count ts ≡ take c.args.head.now.transactions ts = ap (λ n. take n ts) c.in_ok-count.ensures.ok in
-    rw (exit.1, exit.2) (λ base run pages pending h.
-    let xs = take c.args.head.now.pending pending in
-    let table = subst IsTable (sym e) h.arrays.used.table in
-    entry_refused base run c.args.head.now.last c.args.head.now.next _ (map page_state_of pages) h.holds NotAborting c.args.tx 25 (length c.args.out.now) c.in_err-place.field-0.0
-    (subst (λ (zs : List TransactionEntry). EntryRefused NotAborting (kept_of zs xs) c.args.tx c.in_err-place.field-0.0) e (c.in_err-place.ensures.err xs table)))
+    rw exit.1 (record {
+      ok = tt;
+      written = tt;
+      others = tt;
+      size = tt;
+      owes = tt;
+      short = tt;
+      enough = λ _. rw exit.2 c.in_err-place.ensures.kind;
+      count = le_refl _;
+      updates = refl;
+      lsn = tt;
+      unforced = refl;
+      next = refl;
+      head = refl;
+      transactions = refl;
+      out = refl;
+      refused = rw exit.2 (λ base run pages pending h.
+          let xs = take c.args.head.now.pending pending in
+          let table = subst IsTable (sym e) h.arrays.used.table in
+          entry_refused base run c.args.head.now.last c.args.head.now.next _ (map page_state_of pages) h.holds NotAborting c.args.tx 25 (length c.args.out.now) c.in_err-place.field-0.0
+          (subst (λ (zs : List TransactionEntry). EntryRefused NotAborting (kept_of zs xs) c.args.tx c.in_err-place.field-0.0) e (c.in_err-place.ensures.err xs table)));
+    })
 
-pub returns-in_err-lsn-clause-refused : goal.returns-in_err-lsn-clause-refused
-returns-in_err-lsn-clause-refused c =
+pub returns-in_err-lsn : goal.returns-in_err-lsn
+returns-in_err-lsn c =
     let exit = err_from_is_err_and c.from_residual-in_err-lsn.result c.from_residual-in_err-lsn.ensures.1 in
     let full = c.in_err-lsn.ensures.full in
     let ts : List TransactionEntry = c.args.transactions.now in
@@ -64,9 +81,26 @@ returns-in_err-lsn-clause-refused c =
     let e : take c.in_ok-count.count ts ≡ take c.args.head.now.transactions ts = ap (λ n. take n ts) c.in_ok-count.ensures.ok in
     let within : place < length (take c.args.head.now.transactions ts) = subst (λ (xs : List TransactionEntry). place < length xs) e c.in_ok-place.ensures.within in
     let found : (get_or (take c.args.head.now.transactions ts) place no_entry).tx ≡ c.args.tx = subst (λ (xs : List TransactionEntry). (get_or xs place no_entry).tx ≡ c.args.tx) e (c.in_ok-place.ensures.found no_entry) in
-    rw (exit.1, exit.2) (λ base run pages pending h.
-    let owed = owes base run c.args.head.now ts pages pending h c.args.tx place within found in
-    absurd (omega (arith, owed, full, h.reserve)))
+    rw exit.1 (record {
+      ok = tt;
+      written = tt;
+      others = tt;
+      size = tt;
+      owes = tt;
+      short = tt;
+      enough = λ _. rw (exit.2, c.in_err-lsn.ensures.err) tt;
+      count = le_refl _;
+      updates = refl;
+      lsn = tt;
+      unforced = refl;
+      next = refl;
+      head = refl;
+      transactions = refl;
+      out = refl;
+      refused = rw exit.2 (λ base run pages pending h.
+          let owed = owes base run c.args.head.now ts pages pending h c.args.tx place within found in
+          absurd (omega (arith, owed, full, h.reserve)));
+    })
 
 pub returns-clause-owes : goal.returns-clause-owes
 returns-clause-owes c = λ base run pages pending h.
@@ -87,3 +121,25 @@ returns-clause-others c = λ base run pages pending h.
     let found : (get_or (take c.args.head.now.transactions ts) place no_entry).tx ≡ c.args.tx = subst (λ (xs : List TransactionEntry). (get_or xs place no_entry).tx ≡ c.args.tx) e (c.in_ok-place.ensures.found no_entry) in
     others_kept base run c.args.head.now ts pages pending h c.args.tx place within found c.finish.new.transactions (c.in_ok-count.count - 1) (ap (λ n. n - 1) c.in_ok-count.ensures.ok)
     (c.finish.ensures ∙ ap (λ n. remove (take n ts) place) c.in_ok-count.ensures.ok)
+
+pub returns-in_err-room_for : goal.returns-in_err-room_for
+returns-in_err-room_for c =
+    let exit = err_from_is_err_and c.from_residual-in_err-room_for.result c.from_residual-in_err-room_for.ensures.1 in
+    rw exit.1 (record {
+      ok = tt;
+      written = tt;
+      others = tt;
+      size = tt;
+      owes = tt;
+      short = tt;
+      enough = λ h. absurd (omega (arith, h, c.in_err-room_for.ensures.short));
+      count = le_refl _;
+      updates = refl;
+      lsn = tt;
+      unforced = refl;
+      next = refl;
+      head = refl;
+      transactions = refl;
+      out = refl;
+      refused = rw (exit.2, c.in_err-room_for.ensures.err) (λ base run pages pending h. (refl, c.in_err-room_for.ensures.short));
+    })

@@ -42,16 +42,32 @@ returns-clause-written c = λ base run pages pending h.
     let plain = subst (λ n. IsWritten (Prepare (record { tx = c.args.tx; prev = n })) c.in_ok-lsn.lsn c.args.out.now c.put_plain.new.out 25) prev (c.put_plain.ensures.written (Prepare (record { tx = c.args.tx; prev = (get_or ts place no_entry).last })) (refl, refl)) in
     subst (λ n. IsWritten (Prepare (record { tx = c.args.tx; prev = last_of c.args.tx (log_of run) })) n c.args.out.now c.put_plain.new.out 25) c.in_ok-lsn.ensures.ok plain
 
-pub returns-in_err-place-clause-refused : goal.returns-in_err-place-clause-refused
-returns-in_err-place-clause-refused c =
+pub returns-in_err-place : goal.returns-in_err-place
+returns-in_err-place c =
     let exit = err_from_is_err_and c.from_residual-in_err-place.result c.from_residual-in_err-place.ensures.1 in
     let ts : List TransactionEntry = c.args.transactions.now in
     let e : take c.in_ok-count.count ts ≡ take c.args.head.now.transactions ts = ap (λ n. take n ts) c.in_ok-count.ensures.ok in
-    rw (exit.1, exit.2) (λ base run pages pending h.
-    let xs = take c.args.head.now.pending pending in
-    let table = subst IsTable (sym e) h.arrays.used.table in
-    prepare_refused base run c.args.head.now.last c.args.head.now.next _ (map page_state_of pages) h.holds c.args.tx c.args.head.now (length c.args.out.now) c.in_err-place.field-0.0
-    (subst (λ (zs : List TransactionEntry). EntryRefused Working (kept_of zs xs) c.args.tx c.in_err-place.field-0.0) e (c.in_err-place.ensures.err xs table)))
+    rw exit.1 (record {
+      ok = tt;
+      written = tt;
+      others = tt;
+      size = tt;
+      short = tt;
+      enough = λ _. rw exit.2 c.in_err-place.ensures.kind;
+      count = refl;
+      updates = refl;
+      lsn = tt;
+      unforced = refl;
+      next = refl;
+      head = refl;
+      transactions = refl;
+      out = refl;
+      refused = rw exit.2 (λ base run pages pending h.
+          let xs = take c.args.head.now.pending pending in
+          let table = subst IsTable (sym e) h.arrays.used.table in
+          prepare_refused base run c.args.head.now.last c.args.head.now.next _ (map page_state_of pages) h.holds c.args.tx c.args.head.now (length c.args.out.now) c.in_err-place.field-0.0
+          (subst (λ (zs : List TransactionEntry). EntryRefused Working (kept_of zs xs) c.args.tx c.in_err-place.field-0.0) e (c.in_err-place.ensures.err xs table)));
+    })
 
 pub returns-clause-others : goal.returns-clause-others
 returns-clause-others c = λ base run pages pending h.
@@ -61,3 +77,24 @@ returns-clause-others c = λ base run pages pending h.
     let within : place < length (take c.args.head.now.transactions ts) = subst (λ (xs : List TransactionEntry). place < length xs) e c.in_ok-place.ensures.within in
     let found : (get_or (take c.args.head.now.transactions ts) place no_entry).tx ≡ c.args.tx = subst (λ (xs : List TransactionEntry). (get_or xs place no_entry).tx ≡ c.args.tx) e (c.in_ok-place.ensures.found no_entry) in
     turned_others base run c.args.head.now ts pages pending h c.args.tx place within found 2 c.in_ok-lsn.lsn c.note_state.new.transactions (c.note_state.ensures no_entry)
+
+pub returns-in_err-room_for : goal.returns-in_err-room_for
+returns-in_err-room_for c =
+    let exit = err_from_is_err_and c.from_residual-in_err-room_for.result c.from_residual-in_err-room_for.ensures.1 in
+    rw exit.1 (record {
+      ok = tt;
+      written = tt;
+      others = tt;
+      size = tt;
+      short = tt;
+      enough = λ h. absurd (omega (arith, h, c.in_err-room_for.ensures.short));
+      count = refl;
+      updates = refl;
+      lsn = tt;
+      unforced = refl;
+      next = refl;
+      head = refl;
+      transactions = refl;
+      out = refl;
+      refused = rw (exit.2, c.in_err-room_for.ensures.err) (λ base run pages pending h. (refl, c.in_err-room_for.ensures.short));
+    })

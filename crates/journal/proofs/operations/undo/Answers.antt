@@ -1,4 +1,4 @@
-use Rattle.std.proofs.Common.{◌≡◌, true, map, ◌<◌, ◌+◌, ℕ, false, List, length, get_or, take, sym, ap, subst, ◌∙◌, arith}
+use Rattle.std.proofs.Common.{◌≡◌, true, map, ◌<◌, ◌+◌, ℕ, false, List, length, get_or, take, sym, ap, subst, ◌∙◌, arith, refl}
 use Rattle.std.proofs.lemmas.Result.{err_from_is_err_and}
 use Rattle.log_laws.specs.Records.{CompensationRecord, Compensation, last_lsn}
 use Rattle.log_laws.specs.Meaning.{last_of}
@@ -14,46 +14,100 @@ use Rattle.journal.proofs.Refused.{undo_refused, nothing_pending}
 use Rattle.journal.proofs.Journals.{no_entry, no_update, kept_is, owes, no_pending, its_cell, undo_record, undone_is, undone_owes, undone_others, its_last}
 use Rattle.journal.proofs.operations.undo.Goals as goal
 
-pub returns-in_err-place-clause-refused : goal.returns-in_err-place-clause-refused
-returns-in_err-place-clause-refused c =
+pub returns-in_err-place : goal.returns-in_err-place
+returns-in_err-place c =
     let exit = err_from_is_err_and c.from_residual-in_err-place.result c.from_residual-in_err-place.ensures.1 in
     let ts : List TransactionEntry = c.args.transactions.now in
     let e : take c.in_ok-count.count ts ≡ take c.args.head.now.transactions ts = ap (λ n. take n ts) c.in_ok-count.ensures.ok in
-    rw (exit.1, exit.2) (λ base run h.
-    let xs = take c.args.head.now.pending c.args.pending.now in
-    let table = subst IsTable (sym e) h.arrays.used.table in
-    undo_refused base run c.args.head.now.last c.args.head.now.next _ (map page_state_of c.args.pages.now) h.holds c.args.tx (length c.args.out.now) c.in_err-place.field-0.0
-    (subst (λ (zs : List TransactionEntry). EntryRefused NotPrepared (kept_of zs xs) c.args.tx c.in_err-place.field-0.0) e (c.in_err-place.ensures.err xs table)))
+    rw exit.1 (record {
+      ok = tt;
+      others = tt;
+      size = tt;
+      owes = tt;
+      short = tt;
+      enough = λ _. rw exit.2 c.in_err-place.ensures.kind;
+      count = refl;
+      updates = refl;
+      lsn = tt;
+      unforced = refl;
+      next = refl;
+      head = refl;
+      transactions = refl;
+      pages = refl;
+      pending = refl;
+      out = refl;
+      refused = rw exit.2 (λ base run h.
+          let xs = take c.args.head.now.pending c.args.pending.now in
+          let table = subst IsTable (sym e) h.arrays.used.table in
+          undo_refused base run c.args.head.now.last c.args.head.now.next _ (map page_state_of c.args.pages.now) h.holds c.args.tx (length c.args.out.now) c.in_err-place.field-0.0
+          (subst (λ (zs : List TransactionEntry). EntryRefused NotPrepared (kept_of zs xs) c.args.tx c.in_err-place.field-0.0) e (c.in_err-place.ensures.err xs table)));
+    })
 
-pub returns-in_default-clause-refused : goal.returns-in_default-clause-refused
-returns-in_default-clause-refused c = λ base run h.
-    let ts : List TransactionEntry = c.args.transactions.now in
-    let place : ℕ = c.in_ok-place.place in
-    let e : take c.in_ok-count.count ts ≡ take c.args.head.now.transactions ts = ap (λ n. take n ts) c.in_ok-count.ensures.ok in
-    let within : place < length (take c.args.head.now.transactions ts) = subst (λ (xs : List TransactionEntry). place < length xs) e c.in_ok-place.ensures.within in
-    let found : (get_or (take c.args.head.now.transactions ts) place no_entry).tx ≡ c.args.tx = subst (λ (xs : List TransactionEntry). (get_or xs place no_entry).tx ≡ c.args.tx) e (c.in_ok-place.ensures.found no_entry) in
-    let below : c.bound-below.result ≡ bound_of (get_or (take c.args.head.now.transactions ts) place no_entry) c.args.head.now.pending =
-    c.bound-below.ensures ∙ ap (λ (xs : List TransactionEntry). bound_of (get_or xs place no_entry) c.args.head.now.pending) e in
-    let none = no_pending base run c.args.head.now ts c.args.pages.now c.args.pending.now h c.args.tx place within found c.bound-below.result below (c.newest.ensures.none c.in_default.is) in
-    nothing_pending base run c.args.head.now.last c.args.head.now.next _ (map page_state_of c.args.pages.now) h.holds c.args.tx _
-    (kept_is base run c.args.head.now ts c.args.pages.now c.args.pending.now h c.args.tx place within found) none
+pub returns-in_default : goal.returns-in_default
+returns-in_default c = record {
+  ok = tt;
+  others = tt;
+  size = tt;
+  owes = tt;
+  short = tt;
+  enough = λ _. tt;
+  count = refl;
+  updates = refl;
+  lsn = tt;
+  unforced = refl;
+  next = refl;
+  head = refl;
+  transactions = refl;
+  pages = refl;
+  pending = refl;
+  out = refl;
+  refused = λ base run h.
+      let ts : List TransactionEntry = c.args.transactions.now in
+      let place : ℕ = c.in_ok-place.place in
+      let e : take c.in_ok-count.count ts ≡ take c.args.head.now.transactions ts = ap (λ n. take n ts) c.in_ok-count.ensures.ok in
+      let within : place < length (take c.args.head.now.transactions ts) = subst (λ (xs : List TransactionEntry). place < length xs) e c.in_ok-place.ensures.within in
+      let found : (get_or (take c.args.head.now.transactions ts) place no_entry).tx ≡ c.args.tx = subst (λ (xs : List TransactionEntry). (get_or xs place no_entry).tx ≡ c.args.tx) e (c.in_ok-place.ensures.found no_entry) in
+      let below : c.bound-below.result ≡ bound_of (get_or (take c.args.head.now.transactions ts) place no_entry) c.args.head.now.pending =
+      c.bound-below.ensures ∙ ap (λ (xs : List TransactionEntry). bound_of (get_or xs place no_entry) c.args.head.now.pending) e in
+      let none = no_pending base run c.args.head.now ts c.args.pages.now c.args.pending.now h c.args.tx place within found c.bound-below.result below (c.newest.ensures.none c.in_default.is) in
+      nothing_pending base run c.args.head.now.last c.args.head.now.next _ (map page_state_of c.args.pages.now) h.holds c.args.tx _
+      (kept_is base run c.args.head.now ts c.args.pages.now c.args.pending.now h c.args.tx place within found) none;
+}
 
-pub returns-then-not-is_cell-clause-refused : goal.returns-then-not-is_cell-clause-refused
-returns-then-not-is_cell-clause-refused c = λ base run h.
-    let ts : List TransactionEntry = c.args.transactions.now in
-    let place : ℕ = c.in_ok-place.place in
-    let e : take c.in_ok-count.count ts ≡ take c.args.head.now.transactions ts = ap (λ n. take n ts) c.in_ok-count.ensures.ok in
-    let within : place < length (take c.args.head.now.transactions ts) = subst (λ (xs : List TransactionEntry). place < length xs) e c.in_ok-place.ensures.within in
-    let found : (get_or (take c.args.head.now.transactions ts) place no_entry).tx ≡ c.args.tx = subst (λ (xs : List TransactionEntry). (get_or xs place no_entry).tx ≡ c.args.tx) e (c.in_ok-place.ensures.found no_entry) in
-    let below : c.bound-below.result ≡ bound_of (get_or (take c.args.head.now.transactions ts) place no_entry) c.args.head.now.pending =
-    c.bound-below.ensures ∙ ap (λ (xs : List TransactionEntry). bound_of (get_or xs place no_entry) c.args.head.now.pending) e in
-    let cell = its_cell base run c.args.head.now ts c.args.pages.now c.args.pending.now h c.args.tx place within found c.bound-below.result below c.in-Some.top c.in-Some.ensures.within (c.in-Some.ensures.found no_update) c.in-Some.ensures.above in
-    let yes = c.is_cell.ensures.1 cell in
-    let no : c.is_cell.result ≡ false = c.if-not-is_cell.true in
-    cc
+pub returns-then-not-is_cell : goal.returns-then-not-is_cell
+returns-then-not-is_cell c = record {
+  ok = tt;
+  others = tt;
+  size = tt;
+  owes = tt;
+  short = tt;
+  enough = λ _. tt;
+  count = refl;
+  updates = refl;
+  lsn = tt;
+  unforced = refl;
+  next = refl;
+  head = refl;
+  transactions = refl;
+  pages = refl;
+  pending = refl;
+  out = refl;
+  refused = λ base run h.
+      let ts : List TransactionEntry = c.args.transactions.now in
+      let place : ℕ = c.in_ok-place.place in
+      let e : take c.in_ok-count.count ts ≡ take c.args.head.now.transactions ts = ap (λ n. take n ts) c.in_ok-count.ensures.ok in
+      let within : place < length (take c.args.head.now.transactions ts) = subst (λ (xs : List TransactionEntry). place < length xs) e c.in_ok-place.ensures.within in
+      let found : (get_or (take c.args.head.now.transactions ts) place no_entry).tx ≡ c.args.tx = subst (λ (xs : List TransactionEntry). (get_or xs place no_entry).tx ≡ c.args.tx) e (c.in_ok-place.ensures.found no_entry) in
+      let below : c.bound-below.result ≡ bound_of (get_or (take c.args.head.now.transactions ts) place no_entry) c.args.head.now.pending =
+      c.bound-below.ensures ∙ ap (λ (xs : List TransactionEntry). bound_of (get_or xs place no_entry) c.args.head.now.pending) e in
+      let cell = its_cell base run c.args.head.now ts c.args.pages.now c.args.pending.now h c.args.tx place within found c.bound-below.result below c.in-Some.top c.in-Some.ensures.within (c.in-Some.ensures.found no_update) c.in-Some.ensures.above in
+      let yes = c.is_cell.ensures.1 cell in
+      let no : c.is_cell.result ≡ false = c.if-not-is_cell.true in
+      cc;
+}
 
-pub returns-in_err-room_for-clause-refused : goal.returns-in_err-room_for-clause-refused
-returns-in_err-room_for-clause-refused c =
+pub returns-in_err-room_for : goal.returns-in_err-room_for
+returns-in_err-room_for c =
     let exit = err_from_is_err_and c.from_residual-in_err-room_for.result c.from_residual-in_err-room_for.ensures.1 in
     let ts : List TransactionEntry = c.args.transactions.now in
     let ps : List PendingEntry = c.args.pending.now in
@@ -65,11 +119,29 @@ returns-in_err-room_for-clause-refused c =
     c.bound-below.ensures ∙ ap (λ (xs : List TransactionEntry). bound_of (get_or xs place no_entry) c.args.head.now.pending) e in
     let update : PendingEntry = get_or ps c.in-Some.top no_update in
     let short = c.in_err-room_for.ensures.short in
-    rw (exit.1, exit.2) (λ base run h.
-    let clr : CompensationRecord = record { tx = c.args.tx; prev = last_of c.args.tx (log_of run); page = update.page; slot = update.slot; undo_next = update.prev; image = image_of update.before } in
-    let undoes = undo_record base run c.args.head.now ts c.args.pages.now ps h c.args.tx place within found c.bound-below.result below c.in-Some.top c.in-Some.ensures.within (c.in-Some.ensures.found no_update) c.in-Some.ensures.above in
-    let size : c.compensation_size.result ≡ length (frame (Compensation clr) (last_lsn (log_of run) + 1)) = omega (arith, c.compensation_size.ensures.size) in
-    subst (UndoRefused run c.args.tx (length c.args.out.now)) (sym c.in_err-room_for.ensures.err) (Compensation clr, undoes, size, short))
+    rw exit.1 (record {
+      ok = tt;
+      others = tt;
+      size = tt;
+      owes = tt;
+      short = tt;
+      enough = λ h. absurd (omega (arith, h, c.in_err-room_for.ensures.short, c.compensation_size.ensures.short));
+      count = refl;
+      updates = refl;
+      lsn = tt;
+      unforced = refl;
+      next = refl;
+      head = refl;
+      transactions = refl;
+      pages = refl;
+      pending = refl;
+      out = refl;
+      refused = rw exit.2 (λ base run h.
+          let clr : CompensationRecord = record { tx = c.args.tx; prev = last_of c.args.tx (log_of run); page = update.page; slot = update.slot; undo_next = update.prev; image = image_of update.before } in
+          let undoes = undo_record base run c.args.head.now ts c.args.pages.now ps h c.args.tx place within found c.bound-below.result below c.in-Some.top c.in-Some.ensures.within (c.in-Some.ensures.found no_update) c.in-Some.ensures.above in
+          let size : c.compensation_size.result ≡ length (frame (Compensation clr) (last_lsn (log_of run) + 1)) = omega (arith, c.compensation_size.ensures.size) in
+          subst (UndoRefused run c.args.tx (length c.args.out.now)) (sym c.in_err-room_for.ensures.err) (Compensation clr, undoes, size, short));
+    })
 
 pub returns-clause-ok : goal.returns-clause-ok
 returns-clause-ok c = λ base run h.
@@ -99,8 +171,8 @@ returns-clause-ok c = λ base run h.
       subst (λ k. IsWritten (Compensation (clr (last_of tx (log_of run)))) k c.args.out.now c.put_compensation-size.new.out c.put_compensation-size.result) c.in_ok-lsn.ensures.ok written,
     )
 
-pub returns-in_err-lsn-clause-refused : goal.returns-in_err-lsn-clause-refused
-returns-in_err-lsn-clause-refused c =
+pub returns-in_err-lsn : goal.returns-in_err-lsn
+returns-in_err-lsn c =
     let exit = err_from_is_err_and c.from_residual-in_err-lsn.result c.from_residual-in_err-lsn.ensures.1 in
     let full = c.in_err-lsn.ensures.full in
     let ts : List TransactionEntry = c.args.transactions.now in
@@ -108,9 +180,27 @@ returns-in_err-lsn-clause-refused c =
     let e : take c.in_ok-count.count ts ≡ take c.args.head.now.transactions ts = ap (λ n. take n ts) c.in_ok-count.ensures.ok in
     let within : place < length (take c.args.head.now.transactions ts) = subst (λ (xs : List TransactionEntry). place < length xs) e c.in_ok-place.ensures.within in
     let found : (get_or (take c.args.head.now.transactions ts) place no_entry).tx ≡ c.args.tx = subst (λ (xs : List TransactionEntry). (get_or xs place no_entry).tx ≡ c.args.tx) e (c.in_ok-place.ensures.found no_entry) in
-    rw (exit.1, exit.2) (λ base run h.
-    let owed = owes base run c.args.head.now ts c.args.pages.now c.args.pending.now h c.args.tx place within found in
-    absurd (omega (arith, owed, full, h.reserve)))
+    rw exit.1 (record {
+      ok = tt;
+      others = tt;
+      size = tt;
+      owes = tt;
+      short = tt;
+      enough = λ _. rw (exit.2, c.in_err-lsn.ensures.err) tt;
+      count = refl;
+      updates = refl;
+      lsn = tt;
+      unforced = refl;
+      next = refl;
+      head = refl;
+      transactions = refl;
+      pages = refl;
+      pending = refl;
+      out = refl;
+      refused = rw exit.2 (λ base run h.
+          let owed = owes base run c.args.head.now ts c.args.pages.now c.args.pending.now h c.args.tx place within found in
+          absurd (omega (arith, owed, full, h.reserve)));
+    })
 
 pub returns-clause-owes : goal.returns-clause-owes
 returns-clause-owes c = λ base run h.

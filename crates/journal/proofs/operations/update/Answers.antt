@@ -1,4 +1,4 @@
-use Rattle.std.proofs.Common.{◌≡◌, true, map, ◌<◌, ◌+◌, ◌*◌, ◌^◌, ℕ, None, List, length, get_or, set, take, sym, ap, subst, ◌∙◌, arith, length-append}
+use Rattle.std.proofs.Common.{◌≡◌, true, map, ◌<◌, ◌+◌, ◌*◌, ◌^◌, ℕ, None, List, length, get_or, set, take, sym, ap, subst, ◌∙◌, arith, length-append, refl, ◌≤◌}
 use Rattle.std.proofs.lemmas.Result.{err_from_is_err_and}
 use Rattle.page.specs.Image.{Image as Content}
 use Rattle.log_laws.specs.Records.{LogRecord, Update}
@@ -8,37 +8,77 @@ use Rattle.journal.specs.declared.entries.TransactionEntry.{TransactionEntry}
 use Rattle.journal.specs.declared.entries.PendingEntry.{PendingEntry}
 use Rattle.journal.specs.declared.entries.PageEntry.{PageEntry}
 use Rattle.journal.specs.declared.table.Need.TheVariants.{Working}
-use Rattle.journal.specs.Refusals.{allows, EntryRefused, CellRefused, UpdateRefused}
-use Rattle.journal.specs.Runs.{log_of}
+use Rattle.journal.specs.declared.refusal.Refusal.{Refusal}
+use Rattle.journal.specs.declared.refusal.Refusal.TheVariants.{NoPendingRoom, BadArrays}
+use Rattle.journal.specs.declared.image.Image.{Image}
+use Rattle.journal.specs.declared.entries.Head.{Head}
+use Rattle.journal.specs.Refusals.{allows, IsNotRoom, EntryRefused, CellRefused, UpdateRefused}
+use Rattle.journal.specs.Runs.{Run, log_of}
 use Rattle.journal.specs.Transactions.{IsFreeFor}
-use Rattle.journal.specs.Arrays.{state_of, kept_of, page_state_of, image_of, IsTable, IsRoomMade}
+use Rattle.journal.specs.Arrays.{state_of, kept_of, page_state_of, image_of, IsTable, IsRoomMade, IsNoRoom}
 use Rattle.journal.specs.Writing.{IsWritten}
 use Rattle.journal.specs.State.{update_by}
 use Rattle.journal.proofs.Refused.{update_refused, cell_refused}
 use Rattle.journal.proofs.Journals.{no_entry, kept_is, updated_is, updated_others, value_is}
 use Rattle.journal.proofs.operations.update.Goals as goal
 
-pub returns-in_err-place-clause-refused : goal.returns-in_err-place-clause-refused
-returns-in_err-place-clause-refused c =
+pub returns-in_err-place : goal.returns-in_err-place
+returns-in_err-place c =
     let exit = err_from_is_err_and c.from_residual-in_err-place.result c.from_residual-in_err-place.ensures.1 in
     let ts : List TransactionEntry = c.args.transactions.now in
     let e : take c.in_ok-count.count ts ≡ take c.args.head.now.transactions ts = ap (λ n. take n ts) c.in_ok-count.ensures.ok in
-    rw (exit.1, exit.2) (λ base run h.
-    let xs = take c.args.head.now.pending c.args.pending.now in
-    let table = subst IsTable (sym e) h.arrays.used.table in
-    update_refused base run c.args.head.now.last c.args.head.now.next _ (map page_state_of c.args.pages.now) h.holds c.args.tx c.args.page c.args.slot c.args.after.now _ (length c.args.out.now) c.args.head.now ts c.args.pending.now c.in_err-place.field-0.0
-    (subst (λ (zs : List TransactionEntry). EntryRefused Working (kept_of zs xs) c.args.tx c.in_err-place.field-0.0) e (c.in_err-place.ensures.err xs table)))
+    rw exit.1 (record {
+      ok = tt;
+      written = tt;
+      others = tt;
+      size = tt;
+      short = tt;
+      enough = λ _. rw exit.2 c.in_err-place.ensures.kind;
+      count = refl;
+      updates = tt;
+      lsn = tt;
+      unforced = refl;
+      next = refl;
+      head = refl;
+      transactions = refl;
+      pages = refl;
+      pending = refl;
+      out = refl;
+      refused = rw exit.2 (λ base run h.
+          let xs = take c.args.head.now.pending c.args.pending.now in
+          let table = subst IsTable (sym e) h.arrays.used.table in
+          update_refused base run c.args.head.now.last c.args.head.now.next _ (map page_state_of c.args.pages.now) h.holds c.args.tx c.args.page c.args.slot c.args.after.now _ (length c.args.out.now) c.args.head.now ts c.args.pending.now c.in_err-place.field-0.0
+          (subst (λ (zs : List TransactionEntry). EntryRefused Working (kept_of zs xs) c.args.tx c.in_err-place.field-0.0) e (c.in_err-place.ensures.err xs table)));
+    })
 
-pub returns-in_err-before-clause-refused : goal.returns-in_err-before-clause-refused
-returns-in_err-before-clause-refused c =
+pub returns-in_err-before : goal.returns-in_err-before
+returns-in_err-before c =
     let exit = err_from_is_err_and c.from_residual-in_err-before.result c.from_residual-in_err-before.ensures.1 in
     let ts : List TransactionEntry = c.args.transactions.now in
     let e : take c.in_ok-count.count ts ≡ take c.args.head.now.transactions ts = ap (λ n. take n ts) c.in_ok-count.ensures.ok in
-    rw (exit.1, exit.2) (λ base run h.
-    let xs = take c.args.head.now.pending c.args.pending.now in
-    let table = subst IsTable (sym e) h.arrays.used.table in
-    cell_refused base run c.args.head.now.last c.args.head.now.next _ (map page_state_of c.args.pages.now) h.holds c.args.tx c.args.page c.args.slot c.args.after.now _ (length c.args.out.now) c.args.head.now ts c.args.pending.now c.in_err-before.field-0.0
-    (subst (λ (zs : List TransactionEntry). CellRefused (map page_state_of c.args.pages.now) (kept_of zs xs) c.args.tx c.args.page c.args.slot c.in_err-before.field-0.0) e (c.in_err-before.ensures.err xs table)))
+    rw exit.1 (record {
+      ok = tt;
+      written = tt;
+      others = tt;
+      size = tt;
+      short = tt;
+      enough = λ _. rw exit.2 c.in_err-before.ensures.kind;
+      count = refl;
+      updates = tt;
+      lsn = tt;
+      unforced = refl;
+      next = refl;
+      head = refl;
+      transactions = refl;
+      pages = refl;
+      pending = refl;
+      out = refl;
+      refused = rw exit.2 (λ base run h.
+          let xs = take c.args.head.now.pending c.args.pending.now in
+          let table = subst IsTable (sym e) h.arrays.used.table in
+          cell_refused base run c.args.head.now.last c.args.head.now.next _ (map page_state_of c.args.pages.now) h.holds c.args.tx c.args.page c.args.slot c.args.after.now _ (length c.args.out.now) c.args.head.now ts c.args.pending.now c.in_err-before.field-0.0
+          (subst (λ (zs : List TransactionEntry). CellRefused (map page_state_of c.args.pages.now) (kept_of zs xs) c.args.tx c.args.page c.args.slot c.in_err-before.field-0.0) e (c.in_err-before.ensures.err xs table)));
+    })
 
 pub returns-clause-ok : goal.returns-clause-ok
 returns-clause-ok c = λ base run h.
@@ -84,18 +124,36 @@ returns-clause-written c = λ base run h.
     let two = subst (λ b. IsWritten (r (last_of tx (log_of run)) b) c.in_ok-lsn.lsn c.args.out.now c.put_update-size.new.out c.put_update-size.result) before one in
     subst (λ k. IsWritten (r (last_of tx (log_of run)) (replay base (log_of run) c.args.page c.args.slot)) k c.args.out.now c.put_update-size.new.out c.put_update-size.result) c.in_ok-lsn.ensures.ok two
 
-pub returns-in_err-room_for-clause-refused : goal.returns-in_err-room_for-clause-refused
-returns-in_err-room_for-clause-refused c =
+pub returns-in_err-room_for : goal.returns-in_err-room_for
+returns-in_err-room_for c =
     let exit = err_from_is_err_and c.from_residual-in_err-room_for.result c.from_residual-in_err-room_for.ensures.1 in
     let ts : List TransactionEntry = c.args.transactions.now in
     let short = c.in_err-room_for.ensures.short in
-    rw (exit.1, exit.2) (λ base run h.
-    let before : image_of c.in_ok-before.before.now ≡ replay base (log_of run) c.args.page c.args.slot = value_is base run c.args.head.now ts c.args.pages.now c.args.pending.now h c.args.page c.args.slot c.in_ok-before.ensures.page c.in_ok-before.ensures.slot (image_of c.in_ok-before.before.now) c.in_ok-before.ensures.value in
-    let same : length (image (image_of c.in_ok-before.before.now)) ≡ length (image (replay base (log_of run) c.args.page c.args.slot)) = ap (λ b. length (image b)) before in
-    let size : c.update_size.result ≡ length (frame (update_by base run c.args.tx c.args.page c.args.slot (image_of c.args.after.now)) (c.args.head.now.last + 1)) =
-    omega (arith, c.update_size.ensures.size, same, length-append (image (replay base (log_of run) c.args.page c.args.slot)) (image (image_of c.args.after.now))) in
-    subst (UpdateRefused run c.args.tx c.args.page c.args.slot c.args.after.now (length (frame (update_by base run c.args.tx c.args.page c.args.slot (image_of c.args.after.now)) (c.args.head.now.last + 1))) (length c.args.out.now) c.args.head.now ts c.args.pending.now)
-    (sym c.in_err-room_for.ensures.err) (size, omega (arith, short, size)))
+    rw exit.1 (record {
+      ok = tt;
+      written = tt;
+      others = tt;
+      size = tt;
+      short = tt;
+      enough = λ h. absurd (omega (arith, h, c.in_err-room_for.ensures.short, c.update_size.ensures.short));
+      count = refl;
+      updates = tt;
+      lsn = tt;
+      unforced = refl;
+      next = refl;
+      head = refl;
+      transactions = refl;
+      pages = refl;
+      pending = refl;
+      out = refl;
+      refused = rw exit.2 (λ base run h.
+          let before : image_of c.in_ok-before.before.now ≡ replay base (log_of run) c.args.page c.args.slot = value_is base run c.args.head.now ts c.args.pages.now c.args.pending.now h c.args.page c.args.slot c.in_ok-before.ensures.page c.in_ok-before.ensures.slot (image_of c.in_ok-before.before.now) c.in_ok-before.ensures.value in
+          let same : length (image (image_of c.in_ok-before.before.now)) ≡ length (image (replay base (log_of run) c.args.page c.args.slot)) = ap (λ b. length (image b)) before in
+          let size : c.update_size.result ≡ length (frame (update_by base run c.args.tx c.args.page c.args.slot (image_of c.args.after.now)) (c.args.head.now.last + 1)) =
+          omega (arith, c.update_size.ensures.size, same, length-append (image (replay base (log_of run) c.args.page c.args.slot)) (image (image_of c.args.after.now))) in
+          subst (UpdateRefused run c.args.tx c.args.page c.args.slot c.args.after.now (length (frame (update_by base run c.args.tx c.args.page c.args.slot (image_of c.args.after.now)) (c.args.head.now.last + 1))) (length c.args.out.now) c.args.head.now ts c.args.pending.now)
+          (sym c.in_err-room_for.ensures.err) (size, omega (arith, short, size)));
+    })
 
 pub returns-clause-others : goal.returns-clause-others
 returns-clause-others c = λ base run h.
@@ -113,3 +171,44 @@ returns-clause-others c = λ base run h.
     updated_others base run c.args.head.now ts c.args.pages.now ps h c.args.tx place within found c.in_ok-top.top c.room_for_one.new.pending c.in_ok-top.ensures.within c.room_for_one.auto.pending made
     c.in_ok-lsn.lsn c.in_ok-lsn.ensures.ok c.in_ok-lsn.ensures.few c.args.page c.args.slot c.in_ok-before.before.now c.args.after.now c.note_update.new.transactions c.note_update.new.pending c.change_cell.new.pages
     (c.note_update.ensures.transaction no_entry) pushed
+
+-- an array of pending updates without room for one more
+not_frame_room : (es : List TransactionEntry) (count : ℕ) (ps : List PendingEntry) (e : Refusal) → IsNoRoom es count ps e → IsNotRoom e
+not_frame_room es count ps NoPendingRoom h = tt
+not_frame_room es count ps BadArrays h = tt
+not_frame_room es count ps e h = absurd h
+
+full_refused : (run : Run) (tx page slot : ℕ) (after : Image) (size room : ℕ) (head : Head) (ts : List TransactionEntry) (ps : List PendingEntry) (e : Refusal)
+    → IsTable (take head.transactions ts) → head.pending ≤ length ps → IsNoRoom (take head.transactions ts) head.pending ps e → UpdateRefused run tx page slot after size room head ts ps e
+full_refused run tx page slot after size room head ts ps NoPendingRoom table within h = (h.0, h.1 table)
+full_refused run tx page slot after size room head ts ps BadArrays table within h = absurd (omega (arith, h, within))
+full_refused run tx page slot after size room head ts ps e table within h = absurd h
+
+pub returns-in_err-top : goal.returns-in_err-top
+returns-in_err-top c =
+    let exit = err_from_is_err_and c.from_residual-in_err-top.result c.from_residual-in_err-top.ensures.1 in
+    let ts : List TransactionEntry = c.args.transactions.now in
+    let ps : List PendingEntry = c.args.pending.now in
+    let e : take c.in_ok-count.count ts ≡ take c.args.head.now.transactions ts = ap (λ n. take n ts) c.in_ok-count.ensures.ok in
+    let cause : IsNoRoom (take c.args.head.now.transactions ts) c.args.head.now.pending ps c.in_err-top.field-0.0 =
+    subst (λ (zs : List TransactionEntry). IsNoRoom zs c.args.head.now.pending ps c.in_err-top.field-0.0) e c.in_err-top.ensures.causes in
+    rw exit.1 (record {
+      ok = tt;
+      written = tt;
+      others = tt;
+      size = tt;
+      short = tt;
+      enough = λ _. rw exit.2 (not_frame_room _ _ _ c.in_err-top.field-0.0 cause);
+      count = refl;
+      updates = tt;
+      lsn = tt;
+      unforced = refl;
+      next = refl;
+      head = refl;
+      transactions = refl;
+      pages = refl;
+      pending = c.in_err-top.ensures.err;
+      out = refl;
+      refused = rw exit.2 (λ base run h.
+          full_refused run c.args.tx c.args.page c.args.slot c.args.after.now _ (length c.args.out.now) c.args.head.now ts ps c.in_err-top.field-0.0 h.arrays.used.table h.arrays.pending_room cause);
+    })

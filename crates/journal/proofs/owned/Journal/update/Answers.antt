@@ -71,3 +71,21 @@ returns-in_err-size-clause-refused c =
     (subst (AllLive es) c.deref_mut-3.ensures.value (subst (λ (z : List TransactionEntry). AllLive (take a.head.transactions z) c.deref_mut-3.result.now) c.deref_mut.ensures.value live)) in
     subst (λ hd. OwnUpdateRefused run c.args.tx c.args.page c.args.slot hd c.in_err-size.field-0.0) (ap (λ (v : JournalState). v.head) c.self.view_is)
     (own_update run c.args.tx c.args.page c.args.slot c.of.result _ _ a.head c.deref_mut.result.now c.deref_mut-3.result.now c.in_err-size.field-0.0 c.of.ensures.valid never (of.enough (search (rules, places))) (of.refused base run h)))
+
+pub invariant_of-self : goal.invariant_of-self
+invariant_of-self c =
+    let i = c.self.invariant in
+    let larger = c.make_pending_room.ensures.larger in
+    record { table = i.table; transactions = i.transactions; some = omega (arith, i.some, larger); pending = omega (arith, i.pending, larger); buffer = i.buffer }
+
+pub invariant_of-self-in_err-rollback : goal.invariant_of-self-in_err-rollback
+invariant_of-self-in_err-rollback c =
+    let i = c.self.invariant in
+    let larger = c.make_pending_room.ensures.larger in
+    record {
+      table = i.table;
+      transactions = i.transactions;
+      some = omega (arith, i.some, larger);
+      pending = omega (arith, i.pending, larger);
+      buffer = omega (arith, i.buffer, c.make_room.ensures.larger);
+    }
