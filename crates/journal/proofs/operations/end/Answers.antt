@@ -194,3 +194,33 @@ returns-in_err-room_for c =
       out = refl;
       refused = rw (exit.2, c.in_err-room_for.ensures.err) (λ base run pages h. (refl, c.in_err-room_for.ensures.short));
     })
+
+pub returns-clause-enough : goal.returns-clause-enough
+returns-clause-enough c = λ _. tt
+
+pub returns-clause-updates : goal.returns-clause-updates
+returns-clause-updates c = refl
+
+pub returns-clause-lsn : goal.returns-clause-lsn
+returns-clause-lsn c = c.in_ok-lsn.ensures.ok
+
+pub returns-clause-unforced : goal.returns-clause-unforced
+returns-clause-unforced c = refl
+
+pub returns-clause-next : goal.returns-clause-next
+returns-clause-next c = refl
+
+pub returns-clause-head : goal.returns-clause-head
+returns-clause-head c = tt
+
+pub returns-clause-transactions : goal.returns-clause-transactions
+returns-clause-transactions c = tt
+
+pub returns-clause-out : goal.returns-clause-out
+returns-clause-out c = tt
+
+pub returns-clause-refused : goal.returns-clause-refused
+returns-clause-refused c = tt
+
+pub returns-clause-short : goal.returns-clause-short
+returns-clause-short c = refl

@@ -225,3 +225,39 @@ returns-clause-others c = λ base run h.
     c.bound-below.ensures ∙ ap (λ (xs : List TransactionEntry). bound_of (get_or xs place no_entry) c.args.head.now.pending) e in
     undone_others base run c.args.head.now ts c.args.pages.now c.args.pending.now h c.args.tx place within found c.bound-below.result below c.in-Some.top c.in-Some.ensures.within (c.in-Some.ensures.found no_update) c.in-Some.ensures.above
     c.in_ok-lsn.lsn c.in_ok-lsn.ensures.ok c.in_ok-lsn.ensures.few c.note_undo.new.transactions c.note_undo.new.pending c.change_cell.new.pages (c.note_undo.ensures.transaction no_entry) (c.note_undo.ensures.pending no_update)
+
+pub returns-clause-enough : goal.returns-clause-enough
+returns-clause-enough c = λ _. tt
+
+pub returns-clause-count : goal.returns-clause-count
+returns-clause-count c = refl
+
+pub returns-clause-updates : goal.returns-clause-updates
+returns-clause-updates c = refl
+
+pub returns-clause-lsn : goal.returns-clause-lsn
+returns-clause-lsn c = c.in_ok-lsn.ensures.ok
+
+pub returns-clause-unforced : goal.returns-clause-unforced
+returns-clause-unforced c = refl
+
+pub returns-clause-next : goal.returns-clause-next
+returns-clause-next c = refl
+
+pub returns-clause-head : goal.returns-clause-head
+returns-clause-head c = tt
+
+pub returns-clause-transactions : goal.returns-clause-transactions
+returns-clause-transactions c = tt
+
+pub returns-clause-pages : goal.returns-clause-pages
+returns-clause-pages c = tt
+
+pub returns-clause-pending : goal.returns-clause-pending
+returns-clause-pending c = tt
+
+pub returns-clause-out : goal.returns-clause-out
+returns-clause-out c = tt
+
+pub returns-clause-refused : goal.returns-clause-refused
+returns-clause-refused c = tt

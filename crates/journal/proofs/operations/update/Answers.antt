@@ -212,3 +212,36 @@ returns-in_err-top c =
       refused = rw exit.2 (λ base run h.
           full_refused run c.args.tx c.args.page c.args.slot c.args.after.now _ (length c.args.out.now) c.args.head.now ts ps c.in_err-top.field-0.0 h.arrays.used.table h.arrays.pending_room cause);
     })
+
+pub returns-clause-enough : goal.returns-clause-enough
+returns-clause-enough c = λ _. tt
+
+pub returns-clause-count : goal.returns-clause-count
+returns-clause-count c = refl
+
+pub returns-clause-lsn : goal.returns-clause-lsn
+returns-clause-lsn c = c.in_ok-lsn.ensures.ok
+
+pub returns-clause-unforced : goal.returns-clause-unforced
+returns-clause-unforced c = refl
+
+pub returns-clause-next : goal.returns-clause-next
+returns-clause-next c = refl
+
+pub returns-clause-head : goal.returns-clause-head
+returns-clause-head c = tt
+
+pub returns-clause-transactions : goal.returns-clause-transactions
+returns-clause-transactions c = tt
+
+pub returns-clause-pages : goal.returns-clause-pages
+returns-clause-pages c = tt
+
+pub returns-clause-pending : goal.returns-clause-pending
+returns-clause-pending c = tt
+
+pub returns-clause-out : goal.returns-clause-out
+returns-clause-out c = tt
+
+pub returns-clause-refused : goal.returns-clause-refused
+returns-clause-refused c = tt
