@@ -1,5 +1,5 @@
 use Rattle.std.proofs.lemmas.List.{with_items_is, places}
-use Rattle.std.proofs.Common.{rules, ◌++◌, refl, ◌-◌, ℕ, List, length, take, ap, sym, subst, arith}
+use Rattle.std.proofs.Common.{rules, ◌++◌, refl, ◌-◌, ℕ, List, length, take, ap, sym, subst, arith, ◌∙◌, ◌≡◌, ◌+◌, ◌≤◌}
 use borrow.Rule.Slice.PartMut.{post_of}
 use Rattle.log_laws.specs.Records.{Abort}
 use Rattle.journal.specs.declared.entries.TransactionEntry.{TransactionEntry}
@@ -26,3 +26,19 @@ returns-clause-ok c = λ base run k.
     ts_is refl refl now_is (ap (take a.length) c.deref_mut-2.ensures.value) (let e = ap length c.deref_mut-2.ensures.value in omega (arith, e, c.self.invariant.buffer))
     (Abort (plain_by run c.args.tx)) (of.ok base run a.pages.items a.pending.items h) (of.written base run a.pages.items a.pending.items h) of.lsn
     (enough_left _ _ _ _ c.in_ok-size.size a.reserved c.saturating_sub-self-inside.result less k'.enough (omega (arith, of.short)) c.saturating_sub-self-inside.ensures)
+
+pub invariant_of-self : goal.invariant_of-self
+invariant_of-self c =
+    let a : Inside = c.self.inside in
+    let i = c.self.invariant in
+    let of = c.abort.ensures in
+    let count : length c.abort.new.transactions ≡ a.transactions.len = search (rules, places) in
+    let text : List ℕ = take a.length c.deref_mut-2.result.now ++ (c.abort.new.out ++ post_of a.length (length c.deref_mut-2.result.now - a.length) c.deref_mut-2.result.now) in
+    let size : length text ≡ a.buffer.len = search (rules, places) in
+    record {
+      table = ap length (with_items_is a.transactions c.abort.new.transactions count) ∙ count ∙ a.transactions.ok.0 ∙ i.table;
+      transactions = omega (arith, of.count, i.transactions);
+      some = i.some;
+      pending = omega (arith, of.updates, i.pending);
+      buffer = subst (λ k. a.length + a.reserved ≤ k) (sym (ap length (with_items_is a.buffer text size) ∙ size ∙ a.buffer.ok.0)) i.buffer;
+    }

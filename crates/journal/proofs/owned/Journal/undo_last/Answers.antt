@@ -1,5 +1,5 @@
 use Rattle.std.proofs.lemmas.List.{with_items_is, places}
-use Rattle.std.proofs.Common.{rules, ◌++◌, ◌-◌, ℕ, List, length, take, ap, sym, subst, arith}
+use Rattle.std.proofs.Common.{rules, ◌++◌, ◌-◌, ℕ, List, length, take, ap, sym, subst, arith, ◌∙◌, ◌≡◌, ◌+◌, ◌≤◌, ◌<◌}
 use borrow.Rule.Slice.PartMut.{post_of}
 use Rattle.journal.specs.declared.entries.TransactionEntry.{TransactionEntry}
 use Rattle.journal.specs.declared.entries.PendingEntry.{PendingEntry}
@@ -39,3 +39,21 @@ returns-clause-ok c = λ base run k.
           done.0 done.2 done.3 of.lsn
           (enough_left _ _ _ _ c.in_ok-size.size a.reserved c.saturating_sub-self-inside.result less k'.enough of.short c.saturating_sub-self-inside.ensures),
     )
+
+pub invariant_of-self : goal.invariant_of-self
+invariant_of-self c =
+    let a : Inside = c.self.inside in
+    let i = c.self.invariant in
+    let of = c.undo.ensures in
+    let count : length c.undo.new.transactions ≡ a.transactions.len = search (rules, places) in
+    let held : length c.undo.new.pending ≡ a.pending.len = search (rules, places) in
+    let held_is = ap length (with_items_is a.pending c.undo.new.pending held) ∙ held ∙ a.pending.ok.0 in
+    let text : List ℕ = take a.length c.deref_mut-4.result.now ++ (c.undo.new.out ++ post_of a.length (length c.deref_mut-4.result.now - a.length) c.deref_mut-4.result.now) in
+    let size : length text ≡ a.buffer.len = search (rules, places) in
+    record {
+      table = ap length (with_items_is a.transactions c.undo.new.transactions count) ∙ count ∙ a.transactions.ok.0 ∙ i.table;
+      transactions = omega (arith, of.count, i.transactions);
+      some = subst (λ k. 0 < k) (sym held_is) i.some;
+      pending = omega (arith, of.updates, i.pending, held_is);
+      buffer = subst (λ k. a.length + a.reserved ≤ k) (sym (ap length (with_items_is a.buffer text size) ∙ size ∙ a.buffer.ok.0)) i.buffer;
+    }

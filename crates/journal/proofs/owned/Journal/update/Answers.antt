@@ -5,6 +5,7 @@ use borrow.Rule.Slice.PartMut.{mid_of, post_of}
 use Rattle.log_laws.specs.Records.{LogRecord}
 use Rattle.log_laws.specs.Meaning.{BasePages}
 use Rattle.page.specs.Image.{Image as Content}
+use Rattle.journal.specs.declared.entries.Head.{Head}
 use Rattle.journal.specs.declared.entries.TransactionEntry.{TransactionEntry}
 use Rattle.journal.specs.declared.entries.PendingEntry.{PendingEntry}
 use Rattle.journal.specs.declared.entries.PageEntry.{PageEntry}
@@ -88,4 +89,28 @@ invariant_of-self-in_err-rollback c =
       some = omega (arith, i.some, larger);
       pending = omega (arith, i.pending, larger);
       buffer = omega (arith, i.buffer, c.make_room.ensures.larger);
+    }
+
+pub invariant_of-self-in_err-size : goal.invariant_of-self-in_err-size
+invariant_of-self-in_err-size c =
+    let a : Inside = c.self.inside in
+    let i = c.self.invariant in
+    let of = c.update.ensures in
+    let larger = c.make_pending_room.ensures.larger in
+    let wider = c.make_room.ensures.larger in
+    let same = ap (λ (h : Head). h.pending) c.in_err-size.ensures.head in
+    let pending = c.make_pending_room.new.pending in
+    let buffer = c.make_room.new.buffer in
+    let count : length c.update.new.transactions ≡ a.transactions.len = search (rules, places) in
+    let held : length c.update.new.pending ≡ pending.len = search (rules, places) in
+    let held_is = ap length (with_items_is pending c.update.new.pending held) ∙ held ∙ pending.ok.0 in
+    let text : List ℕ = take a.length c.deref_mut-4.result.now ++ (c.update.new.out ++ post_of a.length (length c.deref_mut-4.result.now - a.length) c.deref_mut-4.result.now) in
+    let size : length text ≡ buffer.len = search (rules, places) in
+    let size_is = ap length (with_items_is buffer text size) ∙ size ∙ buffer.ok.0 in
+    record {
+      table = ap length (with_items_is a.transactions c.update.new.transactions count) ∙ count ∙ a.transactions.ok.0 ∙ i.table;
+      transactions = omega (arith, of.count, i.transactions);
+      some = omega (arith, i.some, larger, held_is);
+      pending = omega (arith, same, i.pending, larger, held_is);
+      buffer = omega (arith, i.buffer, wider, size_is);
     }
