@@ -14,49 +14,60 @@ use worked_rows::written::{
     undo_of_missing_page,
 };
 
-/// Whether a restart on an empty page rolls back all transactions of a row: what it appends, the
-/// PageLSN, and how many records are redone, losers, CLRs and ends there are.
-fn rolls_back<R: Threads + Sync>(
+/// Fails if a restart of the row with this name on an empty page does not roll back all its
+/// transactions: what it appends, the PageLSN, and how many records are redone, losers, CLRs and
+/// ends there are.
+fn check_rollback<R: Threads + Sync>(
     rt: &R,
     alloc: Global,
+    name: &str,
     row: Row,
     master: u64,
     lsn: u64,
     numbers: [u64; 4],
-) -> Result<bool, Fault> {
-    is_restarted(rt, alloc, &row, master, &rolled_back(lsn, numbers))
+) -> Result<(), Fail> {
+    let is_right = is_restarted(rt, alloc, &row, master, &rolled_back(lsn, numbers))?;
+    check(is_right, name)
 }
 
-/// Losers that have updates, that were rolled back in part, and that a checkpoint lists.
+/// Losers that have updates, and one that a checkpoint lists.
 #[test]
 fn rolls_back_losers(rt: HostRuntime) -> Result<(), Fail> {
     let alloc = rt.alloc();
-    let is_right = rolls_back(&rt, alloc, one_loser(alloc)?, 0, 2, [1, 1, 1, 1])?;
-    check(is_right, "one-loser")?;
-    let is_right = rolls_back(&rt, alloc, two_losers(alloc)?, 0, 7, [3, 2, 3, 2])?;
-    check(is_right, "two-losers")?;
-    let is_right = rolls_back(
+    let row = one_loser(alloc)?;
+    check_rollback(&rt, alloc, "one-loser", row, 0, 2, [1, 1, 1, 1])?;
+    let row = two_losers(alloc)?;
+    check_rollback(&rt, alloc, "two-losers", row, 0, 7, [3, 2, 3, 2])?;
+    let row = checkpoint_loser(alloc)?;
+    check_rollback(&rt, alloc, "checkpoint-loser", row, 2, 4, [1, 1, 1, 1])
+}
+
+/// Losers that were rolled back in part.
+#[test]
+fn rolls_back_what_a_rollback_left(rt: HostRuntime) -> Result<(), Fail> {
+    let alloc = rt.alloc();
+    let row = partial_rollback_loser(alloc)?;
+    check_rollback(
         &rt,
         alloc,
-        partial_rollback_loser(alloc)?,
+        "partial-rollback-loser",
+        row,
         0,
         6,
         [4, 1, 2, 1],
     )?;
-    check(is_right, "partial-rollback-loser")?;
-    let is_right = rolls_back(&rt, alloc, rollback_interrupted(alloc)?, 0, 5, [3, 1, 1, 1])?;
-    check(is_right, "rollback-interrupted")?;
-    let is_right = rolls_back(
+    let row = rollback_interrupted(alloc)?;
+    check_rollback(&rt, alloc, "rollback-interrupted", row, 0, 5, [3, 1, 1, 1])?;
+    let row = several_kinds_of_loser(alloc)?;
+    check_rollback(
         &rt,
         alloc,
-        several_kinds_of_loser(alloc)?,
+        "several-kinds-of-loser",
+        row,
         0,
         8,
         [3, 3, 1, 3],
-    )?;
-    check(is_right, "several-kinds-of-loser")?;
-    let is_right = rolls_back(&rt, alloc, checkpoint_loser(alloc)?, 2, 4, [1, 1, 1, 1])?;
-    check(is_right, "checkpoint-loser")
+    )
 }
 
 /// What losers did is undone in the same log as transactions in doubt, which are listed in

@@ -2,8 +2,7 @@
 //! the crash, and restarts that are interrupted and begun again.
 
 use super::both_ways::{
-    Expected, GOOD, Manner, Numbers, by_pieces, is_restarted, is_restarted_on, outcome_of, refused,
-    rolled_back,
+    Expected, GOOD, Manner, Numbers, by_pieces, is_restarted_on, outcome_of, refused, rolled_back,
 };
 use checks::check;
 use page::{Fault, Page, Value, decode_store};
@@ -31,16 +30,21 @@ fn checkpoint_commit(alloc: Global) -> Result<Text, Fault> {
     Ok(text)
 }
 
-/// The row `finished-rollback-commit`: transaction 1 was rolled back, and transaction 2 has
-/// committed.
-fn finished_rollback_commit(alloc: Global) -> Result<Text, Fault> {
-    let mut text = Text::new(alloc)?;
+/// Appends the records of the row `finished-rollback-commit`: transaction 1 was rolled back, and
+/// transaction 2 has committed.
+fn put_rollback_and_commit(text: &mut Text) -> Result<(), Fault> {
     text.update(1, 0, 0, None, Some(b'x'))?;
     text.abort(1, 1)?;
     text.clr(1, 2, 0, 0, None)?;
     text.end(1, 3)?;
     text.update(2, 0, 0, None, Some(b'y'))?;
-    text.commit(2, 5)?;
+    text.commit(2, 5)
+}
+
+/// The row `finished-rollback-commit`.
+fn finished_rollback_commit(alloc: Global) -> Result<Text, Fault> {
+    let mut text = Text::new(alloc)?;
+    put_rollback_and_commit(&mut text)?;
     Ok(text)
 }
 
@@ -91,51 +95,102 @@ fn finished(page: Page, redo_from: u64, redone: u64) -> Expected<'static> {
     }
 }
 
-/// Whether a restart on an empty page leaves a log as it is, and makes what is expected.
-fn is_left<R: Threads + Sync>(
+/// Fails if a restart of the row with this name on this page does not make what is expected.
+fn check_restart_on<R: Threads + Sync>(
     rt: &R,
     alloc: Global,
+    name: &str,
+    row: Row,
+    master: u64,
+    page: &Page,
+    expected: &Expected,
+) -> Result<(), Fail> {
+    let is_right = is_restarted_on(rt, alloc, &row, master, page, expected)?;
+    check(is_right, name)
+}
+
+/// Fails if a restart of the row with this name on an empty page changes the log, or does not make
+/// what is expected.
+fn check_left<R: Threads + Sync>(
+    rt: &R,
+    alloc: Global,
+    name: &str,
     text: Text,
     master: u64,
     expected: &Expected,
-) -> Result<bool, Fault> {
-    is_restarted(rt, alloc, &unchanged(text)?, master, expected)
+) -> Result<(), Fail> {
+    check_restart_on(
+        rt,
+        alloc,
+        name,
+        unchanged(text)?,
+        master,
+        &Page::empty(0),
+        expected,
+    )
 }
 
 #[test]
 fn appends_nothing_without_losers(rt: HostRuntime) -> Result<(), Fail> {
     let alloc = rt.alloc();
     let expected = finished(Page::empty(0), 0, 0);
-    let is_right = is_left(&rt, alloc, Text::new(alloc)?, 0, &expected)?;
-    check(is_right, "empty-log")?;
+    check_left(&rt, alloc, "empty-log", Text::new(alloc)?, 0, &expected)?;
     let expected = finished(page_with(1, Some(b'a'), None), 1, 1);
-    let is_right = is_left(&rt, alloc, one_commit(alloc, 0)?, 0, &expected)?;
-    check(is_right, "one-commit")?;
-    let is_right = is_left(&rt, alloc, checkpoint_commit(alloc)?, 2, &expected)?;
-    check(is_right, "checkpoint-commit")?;
+    check_left(
+        &rt,
+        alloc,
+        "one-commit",
+        one_commit(alloc, 0)?,
+        0,
+        &expected,
+    )?;
+    let text = checkpoint_commit(alloc)?;
+    check_left(&rt, alloc, "checkpoint-commit", text, 2, &expected)
+}
+
+#[test]
+fn appends_nothing_after_a_rollback(rt: HostRuntime) -> Result<(), Fail> {
+    let alloc = rt.alloc();
     let expected = finished(page_with(3, Some(b'a'), None), 1, 3);
-    let is_right = is_left(&rt, alloc, partial_rollback_commit(alloc)?, 0, &expected)?;
-    check(is_right, "partial-rollback-commit")?;
+    let text = partial_rollback_commit(alloc)?;
+    check_left(&rt, alloc, "partial-rollback-commit", text, 0, &expected)?;
     let expected = finished(page_with(5, Some(b'y'), None), 1, 3);
-    let is_right = is_left(&rt, alloc, finished_rollback_commit(alloc)?, 0, &expected)?;
-    check(is_right, "finished-rollback-commit")?;
+    let text = finished_rollback_commit(alloc)?;
+    check_left(&rt, alloc, "finished-rollback-commit", text, 0, &expected)
+}
+
+#[test]
+fn redoes_the_shortest_and_the_longest_value(rt: HostRuntime) -> Result<(), Fail> {
+    let alloc = rt.alloc();
     let expected = finished(page_of_both(), 1, 2);
-    let is_right = is_left(&rt, alloc, empty_and_full_values(alloc)?, 0, &expected)?;
-    check(is_right, "empty-and-full-values")
+    let text = empty_and_full_values(alloc)?;
+    check_left(&rt, alloc, "empty-and-full-values", text, 0, &expected)
 }
 
 #[test]
 fn redoes_nothing_on_a_page_that_was_written(rt: HostRuntime) -> Result<(), Fail> {
     let alloc = rt.alloc();
-    let written = page_with(1, Some(b'a'), None);
-    let row = one_loser(alloc)?;
+    let page = page_with(1, Some(b'a'), None);
     let expected = rolled_back(2, [0, 1, 1, 1]);
-    let is_right = is_restarted_on(&rt, alloc, &row, 0, &written, &expected)?;
-    check(is_right, "loser-flushed")?;
-    let row = checkpoint_loser(alloc)?;
+    let row = one_loser(alloc)?;
+    check_restart_on(&rt, alloc, "loser-flushed", row, 0, &page, &expected)
+}
+
+#[test]
+fn redoes_nothing_on_a_page_written_before_a_checkpoint(rt: HostRuntime) -> Result<(), Fail> {
+    let alloc = rt.alloc();
+    let page = page_with(1, Some(b'a'), None);
     let expected = rolled_back(4, [0, 1, 1, 1]);
-    let is_right = is_restarted_on(&rt, alloc, &row, 2, &written, &expected)?;
-    check(is_right, "checkpoint-loser-flushed")
+    let row = checkpoint_loser(alloc)?;
+    check_restart_on(
+        &rt,
+        alloc,
+        "checkpoint-loser-flushed",
+        row,
+        2,
+        &page,
+        &expected,
+    )
 }
 
 #[test]
@@ -144,8 +199,7 @@ fn restarts_on_its_own_result(rt: HostRuntime) -> Result<(), Fail> {
     let row = unchanged(one_loser(alloc)?.made)?;
     let page = page_with(2, None, None);
     let expected = finished(page, 1, 0);
-    let is_right = is_restarted_on(&rt, alloc, &row, 0, &page, &expected)?;
-    check(is_right, "restarted-result")
+    check_restart_on(&rt, alloc, "restarted-result", row, 0, &page, &expected)
 }
 
 /// What an interrupted restart was to make: the new log, and the page at each PageLSN that it can
