@@ -27,7 +27,9 @@ from program import ARIES, LARGE_ROWS, SMALL_ROWS, Row, Tally, bytes_of, has_pri
 # log that is not, a second run may find other pages to redo than the first.
 ROWS = ("one-commit", "empty-log", "two-losers", "several-kinds-of-loser", "partial-rollback-loser", "rollback-interrupted", "prepared-abort",
         "checkpoint-loser", "checkpoint-commit", "checkpoint-loser-flushed", "torn-tail", "torn-length-largest", "cut-at-232", "cut-twice-1",
-        "prepared-at-checkpoint", "prepared-beside-loser", "two-pages-cut", "base-loser", "base-largest", "base-checkpoint")
+        "prepared-at-checkpoint", "prepared-beside-loser", "two-pages-cut", "base-loser", "base-checkpoint")
+# Rows that are refused in place, since their LSNs are near 2^63.
+HIGH_ROWS = ("base-largest",)
 # Rows with 100 bytes of a torn record more, which is longer than what is appended.
 TORN_ROWS = ("one-commit torn", "one-loser torn", "base-loser torn")
 TORN_BYTES = 100
@@ -150,7 +152,8 @@ def wrong_at_row(room, row, workers, is_replaced):
 
 
 def check_rows(tally, room):
-    rows = [row_named(name, room) for name in sorted(os.listdir(SMALL_ROWS)) if os.path.exists(os.path.join(SMALL_ROWS, name, "printed"))]
+    names = [name for name in sorted(os.listdir(SMALL_ROWS)) if name not in HIGH_ROWS]
+    rows = [row_named(name, room) for name in names if os.path.exists(os.path.join(SMALL_ROWS, name, "printed"))]
     rows = [row for row in rows if os.path.exists(row.at("log")) and os.path.exists(row.at("store"))]
     chosen = [row_named(name, room) for name in (*ROWS, *TORN_ROWS, *ROWS_OF_SECTORS, "bad-master", "undo-of-missing-page")]
     jobs = [(row, 1) for row in rows] + [(row, workers) for row in chosen for workers in (2, 4, 64)]
