@@ -131,7 +131,15 @@ fn recover_opened<'x, R: Files<File = File> + Clock>(
     cut: &'x Cell<Option<Cut>>,
 ) -> Result<Report, Fault> {
     let new_store = make_store(rt, files, &opened.store)?;
-    let answer = recover_made(rt, alloc, files, opened, (new_tail, new_store), options, cut);
+    let answer = recover_made(
+        rt,
+        alloc,
+        files,
+        opened,
+        (new_tail, new_store),
+        options,
+        cut,
+    );
     let answer = answer.and_then(|report| place_store(rt, files).map(|()| report));
     if answer.is_err() {
         let _ = fs::remove_file(rt, files.new_store.path);

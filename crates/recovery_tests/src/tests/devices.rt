@@ -4,9 +4,9 @@ mod calls;
 mod in_place;
 mod large;
 
-use aries::{Options, recover};
+use aries::{Options, recover, recover_copying, recover_large_copying};
 use checks::{check, check_all};
-use device::{MemorySink, MemorySource, Pace, SlowSink, SlowSource};
+use device::{Pace, SlowSink, SlowSource};
 use page::{Fault, Page};
 use redo::OpenGate;
 use std::alloc::Global;
@@ -92,6 +92,19 @@ impl Failure {
     }
 }
 
+/// A recovery into new files.
+#[derive(Clone, Copy)]
+enum Way {
+    /// It holds the log and the store in memory.
+    Memory,
+    /// It reads the log in pieces.
+    Copying,
+    /// It reads both in pieces.
+    LargeCopying,
+}
+
+const WAYS: [Way; 3] = [Way::Memory, Way::Copying, Way::LargeCopying];
+
 /// A row, the bytes of the store that it begins with, and of the store that comes of it.
 #[derive(Drop)]
 struct Worked {
@@ -130,22 +143,22 @@ type Seen = (Result<(), Fault>, usize, usize);
 fn recovered<R: Threads + Sync>(
     rt: &R,
     alloc: Global,
+    way: Way,
     worked: &Worked,
     paces: &Paces,
     out_log: &mut SlowSink,
     out_store: &mut SlowSink,
 ) -> Result<(), Fault> {
-    recover(
-        rt,
-        alloc,
-        &mut SlowSource::new(&worked.row.given.bytes, paces.log_source),
-        &mut SlowSource::new(&worked.before, paces.store_source),
-        out_log,
-        out_store,
-        &OPTIONS,
-        &OpenGate,
-    )?;
-    Ok(())
+    let log = &mut SlowSource::new(&worked.row.given.bytes, paces.log_source);
+    let store = &mut SlowSource::new(&worked.before, paces.store_source);
+    let answer = match way {
+        Way::Memory => recover(
+            rt, alloc, log, store, out_log, out_store, &OPTIONS, &OpenGate,
+        ),
+        Way::Copying => recover_copying(alloc, log, store, out_log, out_store, &OPTIONS),
+        Way::LargeCopying => recover_large_copying(alloc, log, store, out_log, out_store, &OPTIONS),
+    };
+    answer.map(|_| ())
 }
 
 /// The sinks must have taken prefixes of the row's new log and store. The log must be flushed
@@ -172,12 +185,13 @@ fn check_order(
 fn seen<R: Threads + Sync>(
     rt: &R,
     alloc: Global,
+    way: Way,
     worked: &Worked,
     paces: &Paces,
 ) -> Result<Seen, Fail> {
     let mut log = SlowSink::new(alloc, worked.row.made.bytes.len(), paces.log_sink)?;
     let mut store = SlowSink::new(alloc, worked.after.len(), paces.store_sink)?;
-    let answer = recovered(rt, alloc, worked, paces, &mut log, &mut store);
+    let answer = recovered(rt, alloc, way, worked, paces, &mut log, &mut store);
     let seen = (answer, log.bytes().len(), store.bytes().len());
     check_order(worked, answer.is_ok(), &log, &store)?;
     Ok(seen)
@@ -190,13 +204,14 @@ type Failed = (&'static str, Device, Failure, Seen);
 fn check_failures<R: Threads + Sync>(
     rt: &R,
     alloc: Global,
+    way: Way,
     worked: &Worked,
     rows: &[Failed],
 ) -> Result<(), Fail> {
     let fast = Paces::all(Pace::of_step(usize::MAX));
     for (name, device, failure, expected) in rows {
         let paces = fast.with(*device, failure.pace());
-        let seen = seen(rt, alloc, worked, &paces)?;
+        let seen = seen(rt, alloc, way, worked, &paces)?;
         check(seen == *expected, name)?;
     }
     Ok(())
@@ -235,20 +250,33 @@ const ONE_LOSER: [Failed; 5] = [
     ),
 ];
 
-#[test]
-fn one_loser_over_devices(rt: HostRuntime) -> Result<(), Fail> {
-    let alloc = rt.alloc();
-    let row = worked_one_loser(alloc)?;
-    let slow = seen(&rt, alloc, &row, &Paces::all(Pace::of_step(1)))?;
+/// Recovers a row of one loser over slow devices, and over devices that fail.
+fn check_one_loser<R: Threads + Sync>(
+    rt: &R,
+    alloc: Global,
+    way: Way,
+    row: &Worked,
+) -> Result<(), Fail> {
+    let slow = seen(rt, alloc, way, row, &Paces::all(Pace::of_step(1)))?;
     let sources_fail = Paces {
         log_sink: Pace::of_step(usize::MAX),
         store_sink: Pace::of_step(usize::MAX),
         ..Paces::all(Pace::failing(usize::MAX, 1))
     };
-    let failed = seen(&rt, alloc, &row, &sources_fail)?;
+    let failed = seen(rt, alloc, way, row, &sources_fail)?;
     check(slow == (Ok(()), 105, 1048), "one-byte-a-call")?;
     check(failed == (Err(Fault::ReadLog), 0, 0), "both-sources-fail")?;
-    check_failures(&rt, alloc, &row, &ONE_LOSER)
+    check_failures(rt, alloc, way, row, &ONE_LOSER)
+}
+
+#[test]
+fn one_loser_over_devices(rt: HostRuntime) -> Result<(), Fail> {
+    let alloc = rt.alloc();
+    let row = worked_one_loser(alloc)?;
+    for way in WAYS {
+        check_one_loser(&rt, alloc, way, &row)?;
+    }
+    Ok(())
 }
 
 const ONE_COMMIT: [Failed; 3] = [
@@ -275,29 +303,30 @@ const ONE_COMMIT: [Failed; 3] = [
 #[test]
 fn one_commit_over_devices(rt: HostRuntime) -> Result<(), Fail> {
     let alloc = rt.alloc();
-    check_failures(&rt, alloc, &worked_one_commit(alloc)?, &ONE_COMMIT)
+    let row = worked_one_commit(alloc)?;
+    for way in WAYS {
+        check_failures(&rt, alloc, way, &row, &ONE_COMMIT)?;
+    }
+    Ok(())
 }
 
 #[test]
 fn writes_nothing_where_it_refuses(rt: HostRuntime) -> Result<(), Fail> {
     let alloc = rt.alloc();
-    let log = clr_points_past_zero(alloc)?;
-    let store = store_of(alloc, 0, &Page::empty(0))?;
-    let mut out_log = MemorySink::new(alloc);
-    let mut out_store = MemorySink::new(alloc);
-    let answer = recover(
-        &rt,
-        alloc,
-        &mut MemorySource::new(&log.bytes),
-        &mut MemorySource::new(&store),
-        &mut out_log,
-        &mut out_store,
-        &OPTIONS,
-        &OpenGate,
-    );
-    check_all(&[
-        (answer.err() == Some(Fault::BrokenChain(2)), "answer"),
-        (out_log.bytes().is_empty(), "log"),
-        (out_store.bytes().is_empty(), "store"),
-    ])
+    let row = Row {
+        given: clr_points_past_zero(alloc)?,
+        made: clr_points_past_zero(alloc)?,
+    };
+    let row = on_empty_page(alloc, row, &Page::empty(0))?;
+    for way in WAYS {
+        let refused = seen(
+            &rt,
+            alloc,
+            way,
+            &row,
+            &Paces::all(Pace::of_step(usize::MAX)),
+        )?;
+        check(refused == (Err(Fault::BrokenChain(2)), 0, 0), "refused")?;
+    }
+    Ok(())
 }

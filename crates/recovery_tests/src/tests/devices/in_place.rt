@@ -69,12 +69,7 @@ struct Left {
 }
 
 /// Recovers a row's store in place, from a log of these bytes.
-fn left_of(
-    alloc: Global,
-    worked: &Worked,
-    bytes: &[u8],
-    sinks: Sinks,
-) -> Result<Left, Fail> {
+fn left_of(alloc: Global, worked: &Worked, bytes: &[u8], sinks: Sinks) -> Result<Left, Fail> {
     let room = bytes.len().max(worked.row.made.bytes.len());
     let mut left = Left {
         answer: Ok(()),
@@ -186,12 +181,7 @@ fn check_left(
 }
 
 /// How many calls fail, each with this fault, before one at which the recovery succeeds.
-fn failing_calls(
-    alloc: Global,
-    worked: &Worked,
-    fault: Fault,
-    sink: Sink,
-) -> Result<u32, Fail> {
+fn failing_calls(alloc: Global, worked: &Worked, fault: Fault, sink: Sink) -> Result<u32, Fail> {
     let read = torn_log(alloc, worked)?;
     for call in 1..1000u32 {
         let left = left_of(alloc, worked, &read, sink.fails_at(call))?;
