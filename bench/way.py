@@ -172,7 +172,7 @@ CUTS = {
     'in place': '''aries/program.rt:run_recovery aries/left.rt:continue_again NewTail::keep NewTail::torn NewTail::write_whole
         job_files/notices.rt''',
     'in pieces': 'recovery/devices.rt:recover',
-    'in memory': 'recovery/copying.rt recovery/by_pieces.rt aries/files.rt:is_longer',
+    'in memory': 'recovery/copying.rt recovery/by_pieces.rt aries/files.rt:is_large',
     'an audit': '''aries/program.rt:run_recovery aries/in_place.rt recovery/in_place.rt aries/program.rt:name_and_run
         command/job.rt:recover_job
         recovery/texts.rt:audit_texts_over''',

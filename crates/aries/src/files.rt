@@ -28,7 +28,7 @@ const LARGE: u64 = 16 << 20;
 
 /// How a recovery reads its files.
 #[derive(Clone, Copy, Drop)]
-pub enum Reading {
+enum Reading {
     /// Each is in memory as a whole.
     Whole,
     /// The log is read in pieces.
@@ -75,7 +75,7 @@ fn options_for(options: &Options, may_be_one: bool, bytes: usize) -> Options {
 
 /// Whether no LSN of a log is above the largest base LSN. A log has fewer records than bytes. Only
 /// a failure of this reading is noted.
-fn has_low_lsns<R: Files + Clock>(rt: &R, alloc: Global, log: &Notes) -> Result<bool, Fault> {
+pub fn has_low_lsns<R: Files + Clock>(rt: &R, alloc: Global, log: &Notes) -> Result<bool, Fault> {
     let notes = Notes::new(log.role, log.path);
     let file = open(rt, log, Fault::ReadLog)?;
     let mut source = FileSource::sized(NotedFile::new(file, rt, &notes));
@@ -92,10 +92,10 @@ fn has_low_lsns<R: Files + Clock>(rt: &R, alloc: Global, log: &Notes) -> Result<
     }
 }
 
-/// Whether an open file is a regular file, which can be read again, of more than `bytes` bytes.
-fn is_longer<F: OpenFile>(opened: &F, bytes: u64) -> bool {
-    match opened.metadata() {
-        Ok(metadata) => metadata.is_file() && metadata.len() > bytes,
+/// Whether an open store is large, and a regular file, which can be read again.
+pub fn is_large<F: OpenFile>(store: &F) -> bool {
+    match store.metadata() {
+        Ok(metadata) => metadata.is_file() && metadata.len() > LARGE,
         Err(_) => false,
     }
 }
@@ -104,7 +104,7 @@ fn is_longer<F: OpenFile>(opened: &F, bytes: u64) -> bool {
 /// file, which can be read again, and none of its LSNs is above the largest base LSN. Then a large
 /// store in a regular file is read in pieces too. `ReadLog` if the header of the log could not be
 /// read.
-pub fn reading_of<R: Files<File = File> + Clock>(
+fn reading_of<R: Files<File = File> + Clock>(
     rt: &R,
     alloc: Global,
     log: &File,
@@ -118,7 +118,7 @@ pub fn reading_of<R: Files<File = File> + Clock>(
     if !has_low_lsns(rt, alloc, notes)? {
         return Ok(Reading::Whole);
     }
-    Ok(if is_longer(store, LARGE) {
+    Ok(if is_large(store) {
         Reading::AllPieces
     } else {
         Reading::Pieces

@@ -11,13 +11,13 @@
 ghost use Rattle.std.specs.Prelude.{◌≢◌};
 ghost use Rattle.page.specs.declared.fault.Fault.TheVariants.{NoResource};
 
-use crate::files::{Reading, reading_of};
+use crate::files::{has_low_lsns, is_large};
 use crate::left::{Finished, finish, remove_left};
 use crate::names::{Opened, PlaceFiles, open_in_place, turn_down};
 use crate::new_file::{make, refuse, remove, sync_folder, sync_found};
 use crate::new_tail::{Cut, NewTail, make_tail};
 use device::{FileLog, FileSink, FileSource};
-use job_files::{Call, NotedFile, Refusal, folder_of};
+use job_files::{Call, NotedFile, Notes, Refusal, folder_of};
 use page::Fault;
 use recovery::{Report, recover_by_pieces, recover_large_by_pieces};
 use restart::Options;
@@ -61,6 +61,14 @@ fn make_store<R: Files<File = File>>(
     make(rt, &files.new_store, old, Fault::WriteStore)
 }
 
+/// Refuses a log that cannot be read in pieces, since its LSNs may pass 2^63 - 1.
+fn check_lsns<R: Files + Clock>(rt: &R, alloc: Global, log: &Notes) -> Result<(), Fault> {
+    if has_low_lsns(rt, alloc, log)? {
+        return Ok(());
+    }
+    Err(turn_down(log, Refusal::HighLsns, Fault::WriteLog))
+}
+
 /// Recovers from open files into new ones that were made, and continues the log.
 fn recover_made<'x, R: Files<File = File> + Clock>(
     rt: &'x R,
@@ -71,21 +79,21 @@ fn recover_made<'x, R: Files<File = File> + Clock>(
     options: &Options,
     cut: &'x Cell<Option<Cut>>,
 ) -> Result<Report, Fault> {
-    let reading = reading_of(rt, alloc, &opened.log, &opened.store, &files.log)?;
     let Opened {
         log,
         out_log,
         lock,
         store,
     } = opened;
+    let is_large = is_large(&store);
     let new_tail = NewTail::new(rt, alloc, files, (new_tail, lock), cut);
     let mut log = FileSource::sized(NotedFile::new(log, rt, &files.log));
     let mut store = FileSource::new(NotedFile::new(store, rt, &files.store));
     let mut tail = FileSink::new(new_tail);
     let mut out_log = FileLog::new(NotedFile::new(out_log, rt, &files.out_log));
     let mut out_store = FileSink::new(NotedFile::new(new_store, rt, &files.new_store));
-    match reading {
-        Reading::AllPieces => recover_large_by_pieces(
+    if is_large {
+        return recover_large_by_pieces(
             alloc,
             &mut log,
             &mut store,
@@ -93,18 +101,17 @@ fn recover_made<'x, R: Files<File = File> + Clock>(
             &mut out_log,
             &mut out_store,
             options,
-        ),
-        Reading::Pieces => recover_by_pieces(
-            alloc,
-            &mut log,
-            &mut store,
-            &mut tail,
-            &mut out_log,
-            &mut out_store,
-            options,
-        ),
-        Reading::Whole => Err(turn_down(&files.log, Refusal::HighLsns, Fault::WriteLog)),
+        );
     }
+    recover_by_pieces(
+        alloc,
+        &mut log,
+        &mut store,
+        &mut tail,
+        &mut out_log,
+        &mut out_store,
+        options,
+    )
 }
 
 /// Renames the new store, which is synced, to the name of the old one, if it replaces that. Then
@@ -192,6 +199,7 @@ pub fn recover_files_in_place<'x, R: Files<File = File> + Clock>(
 ) -> Result<Done, Fault> {
     let opened = open_in_place(rt, alloc, files)?;
     settle(rt, files, &opened)?;
+    check_lsns(rt, alloc, &files.log)?;
     let _lock = match opened.lock.try_clone() {
         Ok(lock) => lock,
         Err(error) => return Err(refuse(&files.out_log, Call::Lock, error, Fault::WriteLog)),
