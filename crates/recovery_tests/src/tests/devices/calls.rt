@@ -1,7 +1,8 @@
 //! A device that fails at each of its calls in turn, and recoveries of what a failed one left.
 
 use super::{
-    Device, OPTIONS, Paces, Seen, Worked, recovered, seen, worked_one_loser, worked_two_losers,
+    Device, OPTIONS, Paces, Seen, WAYS, Way, Worked, recovered, seen, worked_one_loser,
+    worked_two_losers,
 };
 use crate::in_memory::recover_in_memory;
 use checks::{check, check_at};
@@ -27,8 +28,8 @@ impl Device {
     }
 }
 
-/// How many calls of this device, of seven bytes each, fail before one at which the recovery
-/// succeeds. The fault of each of them must name the device.
+/// How many calls of this device, of seven bytes each, fail before one at which the recovery in
+/// memory succeeds. The fault of each of them must name the device.
 fn failing_calls<R: Threads + Sync>(
     rt: &R,
     alloc: Global,
@@ -39,7 +40,7 @@ fn failing_calls<R: Threads + Sync>(
     let slow = Paces::all(Pace::of_step(7));
     for call in 1..1000u32 {
         let paces = slow.with(device, Pace::failing(7, call));
-        let seen = seen(rt, alloc, worked, &paces)?;
+        let seen = seen(rt, alloc, Way::Memory, worked, &paces)?;
         if seen == (Ok(()), log, 1048) {
             return Ok(call - 1);
         }
@@ -91,13 +92,14 @@ fn each_device_fails_at_each_call(rt: HostRuntime) -> Result<(), Fail> {
 fn log_left_at<R: Threads + Sync>(
     rt: &R,
     alloc: Global,
+    way: Way,
     worked: &Worked,
     call: u32,
 ) -> Result<Vec<u8>, Fail> {
     let mut log = SlowSink::new(alloc, worked.row.made.bytes.len(), Pace::failing(7, call))?;
     let mut store = SlowSink::new(alloc, worked.after.len(), Pace::of_step(7))?;
     let fast = Paces::all(Pace::of_step(usize::MAX));
-    let answer = recovered(rt, alloc, worked, &fast, &mut log, &mut store);
+    let answer = recovered(rt, alloc, way, worked, &fast, &mut log, &mut store);
     check(answer == Err(Fault::WriteLog), "another answer")?;
     Ok(Vec::from_slice(alloc, log.bytes())?)
 }
@@ -120,42 +122,69 @@ fn is_gone_on_from<R: Threads + Sync>(
     Ok(new_log == worked.row.made.bytes && new_store == worked.after)
 }
 
-/// The log of two losers takes 16 calls, the records appended take 24, and then comes the flush.
-#[test]
-fn a_failed_recovery_is_gone_on_from(rt: HostRuntime) -> Result<(), Fail> {
-    let alloc = rt.alloc();
-    let row = worked_two_losers(alloc)?;
+/// A recovery goes on from what is left of the new log at each call at which its sink fails after
+/// all that was read: that takes 16 calls, the records appended take 24, and then comes the flush.
+fn check_gone_on<R: Threads + Sync>(
+    rt: &R,
+    alloc: Global,
+    way: Way,
+    row: &Worked,
+) -> Result<(), Fail> {
     for call in 17..42u32 {
-        let log = log_left_at(&rt, alloc, &row, call)?;
+        let log = log_left_at(rt, alloc, way, row, call)?;
         let is_whole = log.len() >= row.row.given.bytes.len();
-        let is_gone_on_from = is_gone_on_from(&rt, alloc, &row, &log)?;
+        let is_gone_on_from = is_gone_on_from(rt, alloc, row, &log)?;
         check_at(call as usize, is_whole, "all that was read, at call")?;
         check_at(call as usize, is_gone_on_from, "gone on from call")?;
     }
     Ok(())
 }
 
-/// The header of a store is read by one call, then 64 KiB by each, and one more finds the end. A
-/// store whose bytes have an error is read to its end too: a failure of each of these calls is
+#[test]
+fn a_failed_recovery_is_gone_on_from(rt: HostRuntime) -> Result<(), Fail> {
+    let alloc = rt.alloc();
+    let row = worked_two_losers(alloc)?;
+    for way in WAYS {
+        check_gone_on(&rt, alloc, way, &row)?;
+    }
+    Ok(())
+}
+
+/// The fault of a recovery from a store of 67 pieces, if its device fails at a call. One call reads
+/// the header, 67 the pieces, and one finds the end.
+fn check_refused<R: Threads + Sync>(
+    rt: &R,
+    alloc: Global,
+    way: Way,
+    long: &Worked,
+    refused: Fault,
+) -> Result<(), Fail> {
+    let fast = Paces::all(Pace::of_step(usize::MAX));
+    for (call, fault) in [(2, Fault::ReadStore), (69, Fault::ReadStore), (70, refused)] {
+        let paces = fast.with(Device::StoreSource, Pace::failing(usize::MAX, call));
+        let seen = seen(rt, alloc, way, long, &paces)?;
+        check_at(
+            call as usize,
+            seen == (Err(fault), 0, 0),
+            "a failure at call",
+        )?;
+    }
+    Ok(())
+}
+
+/// A store whose bytes have an error is read to its end too: a failure of each of these calls is
 /// reported.
 #[test]
 fn a_refused_store_is_read_to_its_end(rt: HostRuntime) -> Result<(), Fail> {
     let alloc = rt.alloc();
     let mut long = worked_one_loser(alloc)?;
     long.before.resize(24 + 67 * 65_536, 0)?;
-    let fast = Paces::all(Pace::of_step(usize::MAX));
     for (first, refused) in [(b'A', Fault::StoreSize), (b'B', Fault::BadStoreHeader)] {
         if let Some(byte) = long.before.get_mut(0) {
             *byte = first;
         }
-        for (call, fault) in [(2, Fault::ReadStore), (69, Fault::ReadStore), (70, refused)] {
-            let paces = fast.with(Device::StoreSource, Pace::failing(usize::MAX, call));
-            let seen = seen(&rt, alloc, &long, &paces)?;
-            check_at(
-                call as usize,
-                seen == (Err(fault), 0, 0),
-                "a failure at call",
-            )?;
+        for way in WAYS {
+            check_refused(&rt, alloc, way, &long, refused)?;
         }
     }
     Ok(())
