@@ -122,8 +122,8 @@ fn is_gone_on_from<R: Threads + Sync>(
     Ok(new_log == worked.row.made.bytes && new_store == worked.after)
 }
 
-/// A recovery goes on from what is left of the new log at each call at which its sink fails after
-/// all that was read: that takes 16 calls, the records appended take 24, and then comes the flush.
+/// A recovery of what is left of the new log makes the row's, at each call at which the sink fails
+/// after all that was read: that takes 16 calls, the records appended take 24, then comes the flush.
 fn check_gone_on<R: Threads + Sync>(
     rt: &R,
     alloc: Global,
