@@ -1,2 +1,3 @@
 mod Empty
 mod Pieces
+mod Reach

@@ -1,5 +1,5 @@
 -- What contracts know of a device whose bytes are read from an offset (own).
-use Rattle.std.specs.Prelude.{◌≡◌, ℕ, List, ◌≤◌, length, take, drop, IfSome}
+use Rattle.std.specs.Prelude.{◌≡◌, ℕ, List, ◌+◌, ◌≤◌, ◌⊎◌, length, take, drop, IfSome, IfOk, Result}
 use Rattle.std.specs.declared.option.Option.{Option}
 
 -- the first `count` bytes of a buffer are those that the device holds from the offset on
@@ -9,3 +9,21 @@ ReadsFrom text offset count buffer = IfSome text (λ held. take count buffer ≡
 -- the device holds nothing at the offset or after it
 abbrev pub EndsBy : (text : Option (List ℕ)) → (offset : ℕ) → Type 0
 EndsBy text offset = IfSome text (λ held. length held ≤ offset)
+
+-- HOW FAR the bytes of a device are read without a gap, if they are known, before and after a reading
+-- no less far than before
+abbrev pub ReachGrows : (text : Option (List ℕ)) → (before after : ℕ) → Type 0
+ReachGrows text before after = IfSome text (λ _. before ≤ after)
+
+-- to the end of what was read, if that began where they were read to, or before
+abbrev pub ReachJoins : (text : Option (List ℕ)) → (before after offset count : ℕ) → Type 0
+ReachJoins text before after offset count = IfSome text (λ _. offset ≤ before → offset + count ≤ after)
+
+-- no further than to the end of what was read
+abbrev pub ReachIsGiven : {E : Type 0} → (text : Option (List ℕ)) → (before after offset : ℕ) → Result ℕ E → Type 0
+ReachIsGiven text before after offset result =
+    IfSome text (λ _. (after ≡ before) ⊎ IfOk result (λ count. (offset ≤ before) × (after ≡ offset + count)))
+
+-- all bytes of the device are read
+abbrev pub IsReadThrough : (text : Option (List ℕ)) → (read_to : ℕ) → Type 0
+IsReadThrough text read_to = EndsBy text read_to

@@ -12,6 +12,10 @@ bytes_left source = source.rest.now
 abbrev pub bytes_held : SlowSource → List ℕ
 bytes_held source = source.all.now
 
+-- how many of them are read at offsets, without a gap
+abbrev pub bytes_joined : SlowSource → ℕ
+bytes_joined source = source.read_to
+
 -- the bytes taken so far
 abbrev pub bytes_taken : SlowSink → List ℕ
 bytes_taken sink = kept_taken sink.kept

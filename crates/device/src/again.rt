@@ -1,9 +1,9 @@
 //! Reading a source again, from an offset.
 
-ghost use Rattle.std.specs.Prelude.{◌≡◌, ◌+◌, ◌^◌, ◌≤◌, ◌<◌, take, drop, length, IfOk};
+ghost use Rattle.std.specs.Prelude.{◌≡◌, ◌+◌, ◌^◌, ◌≤◌, ◌<◌, ◌⊎◌, take, drop, length, IfOk};
 ghost use Rattle.std.specs.Io.KnownBytes.{Keeps};
 ghost use Rattle.device.specs.Failures.{Counts};
-ghost use Rattle.device.specs.Reread.{EndsBy, ReadsFrom};
+ghost use Rattle.device.specs.Reread.{EndsBy, ReachGrows, ReachJoins, ReadsFrom};
 
 use crate::{Failed, Reread};
 
@@ -13,6 +13,19 @@ pub fn bytes_from(bytes: &[u8], offset: u64) -> &[u8]
 {
     let start = bytes.len().min(offset as usize);
     &bytes[start..]
+}
+
+/// How far a device is read without a gap, after a read of `count` bytes at `offset`.
+pub fn read_to_after(before: u64, offset: u64, count: usize) -> u64
+    requires { offset + count < 2 ^ 64 }
+    ensures grows { before ≤ result }
+    ensures joins { offset ≤ before → offset + count ≤ result }
+    ensures given { (result ≡ before) ⊎ ((offset ≤ before) × (result ≡ offset + count)) }
+{
+    if offset > before {
+        return before;
+    }
+    before.max(offset + count as u64)
 }
 
 /// One read into a buffer after the bytes that were read before it. The first byte of the buffer is
@@ -31,6 +44,9 @@ fn read_behind_at<S: Reread>(
         (drop filled buffer.new)) }
     ensures end { IfOk result (λ count. count ≡ 0 → EndsBy (S.text source.old) (start + filled)) }
     ensures same { Keeps (S.text source.old) (S.text source.new) }
+    ensures grows { ReachGrows (S.text source.old) (S.read_to source.old) (S.read_to source.new) }
+    ensures joins { IfOk result (λ count. ReachJoins (S.text source.old) (S.read_to source.old)
+        (S.read_to source.new) (start + filled) count) }
     ensures cause { Counts (S.failures source.old) (S.failures source.new) result }
 {
     source.read_at(start + filled as u64, &mut buffer[filled..])
@@ -54,6 +70,9 @@ pub fn read_full_at<S: Reread>(
     ensures end { IfOk result (λ count. count < length buffer.new
         → EndsBy (S.text source.old) (offset + count)) }
     ensures same { Keeps (S.text source.old) (S.text source.new) }
+    ensures grows { ReachGrows (S.text source.old) (S.read_to source.old) (S.read_to source.new) }
+    ensures joins { IfOk result (λ count. ReachJoins (S.text source.old) (S.read_to source.old)
+        (S.read_to source.new) offset count) }
     ensures cause { Counts (S.failures source.old) (S.failures source.new) result }
 {
     let mut filled = 0;

@@ -1,6 +1,6 @@
 //! Devices over memory. Contracts know their bytes.
 
-ghost use Rattle.std.specs.Prelude.{◌≡◌, ℕ, Some, []};
+ghost use Rattle.std.specs.Prelude.{◌≡◌, ℕ, Some, [], length};
 ghost use Rattle.device.specs.Memory.{bytes_left, bytes_held, bytes_taken, bytes_flushed, failures_met};
 
 use crate::again::bytes_from;
@@ -9,7 +9,7 @@ use crate::{Continue, Failed, Failures, Reread, Sink, Source};
 use std::alloc::Global;
 use std::io::Read;
 
-/// A source of borrowed bytes. It never fails.
+/// A source of borrowed bytes. It never fails. Those bytes count as read from the start.
 #[derive(Drop)]
 pub struct MemorySource<'a> {
     all: &'a [u8],
@@ -49,6 +49,12 @@ impl<'a> Source for MemorySource<'a> {
 
 impl<'a> Reread for MemorySource<'a> {
     ghost text = { λ source. Some (bytes_held source) };
+
+    ghost read_to = { λ source. length (bytes_held source) };
+
+    fn held(&self) -> Option<&[u8]> {
+        Some(self.all)
+    }
 
     fn read_at(&mut self, offset: u64, buffer: &mut [u8]) -> Result<usize, Failed> {
         let held = bytes_from(self.all, offset);

@@ -2,9 +2,9 @@
 //! beforehand. Contracts know their bytes.
 
 ghost use Rattle.std.specs.Prelude.{◌≡◌, Some, None, true, false, [], IfOk, ◌<◌, ◌≤◌, ◌-◌, ◌^◌};
-ghost use Rattle.device.specs.Slow.{bytes_left, bytes_held, bytes_taken, bytes_flushed, read_failures, write_failures};
+ghost use Rattle.device.specs.Slow.{bytes_left, bytes_held, bytes_joined, bytes_taken, bytes_flushed, read_failures, write_failures};
 
-use crate::again::bytes_from;
+use crate::again::{bytes_from, read_to_after};
 use crate::kept::Kept;
 use crate::{Continue, Failed, Failures, Reread, Sink, Source};
 use std::alloc::{AllocError, Global};
@@ -83,6 +83,8 @@ impl Pace {
 pub struct SlowSource<'a> {
     all: &'a [u8],
     rest: &'a [u8],
+    /// How far `read_at` has read without a gap.
+    read_to: u64,
     pace: Pace,
     failures: Failures,
 }
@@ -93,10 +95,12 @@ impl<'a> SlowSource<'a> {
         ensures left { bytes_left result ≡ bytes.now }
         ensures failures { read_failures result ≡ 0 }
         ensures text { bytes_held result ≡ bytes.now }
+        ensures unread { bytes_joined result ≡ 0 }
     {
         SlowSource {
             all: bytes,
             rest: bytes,
+            read_to: 0,
             pace,
             failures: Failures::new(),
         }
@@ -130,6 +134,8 @@ impl<'a> Source for SlowSource<'a> {
 impl<'a> Reread for SlowSource<'a> {
     ghost text = { λ source. Some (bytes_held source) };
 
+    ghost read_to = { bytes_joined };
+
     fn read_at(&mut self, offset: u64, buffer: &mut [u8]) -> Result<usize, Failed> {
         if self.pace.is_due() {
             self.failures.rise();
@@ -138,6 +144,7 @@ impl<'a> Reread for SlowSource<'a> {
         let held = bytes_from(self.all, offset);
         let count = self.pace.count_of(held.len().min(buffer.len()));
         buffer[..count].copy_from_slice(&held[..count]);
+        self.read_to = read_to_after(self.read_to, offset, count);
         Ok(count)
     }
 }

@@ -1,13 +1,13 @@
 //! What a device is.
 
-ghost use Rattle.std.specs.Prelude.{◌≡◌, ℕ, List, None, IfOk, OnOk, OnErr, ◌<◌, length};
+ghost use Rattle.std.specs.Prelude.{◌≡◌, ℕ, List, Some, None, IfOk, IfSome, OnOk, OnErr, ◌<◌, length};
 ghost use Rattle.std.specs.declared.option.Option.{Option};
 ghost use Rattle.std.specs.Io.{ReadsAtMost, WritesAtMost};
 ghost use Rattle.std.specs.Io.KnownBytes.{Keeps, ReadConsumes, WriteAppends};
 ghost use Rattle.device.specs.Failures.{Counts};
 ghost use Rattle.device.specs.Transfer.{Flushes};
 ghost use Rattle.device.specs.Continued.{Cuts, Shortens};
-ghost use Rattle.device.specs.Reread.{EndsBy, ReadsFrom};
+ghost use Rattle.device.specs.Reread.{EndsBy, IsReadThrough, ReachGrows, ReachIsGiven, ReachJoins, ReadsFrom};
 
 /// A device failed. It does not say why.
 #[derive(Clone, Copy, Debug, PartialEq, Eq, Drop)]
@@ -94,6 +94,19 @@ pub trait Reread: Source {
     /// All bytes that the device holds, from its beginning on, or `None` if they are not known.
     ghost text: { Self → Option (List ℕ) } = { λ _. None };
 
+    /// How far these bytes are read without a gap: the offset before which each of them was read,
+    /// or is in memory.
+    ghost read_to: { Self → ℕ } = { λ _. 0 };
+
+    /// All bytes that the device holds, if they are in memory; otherwise `None`, and they are read
+    /// by `read_at`.
+    fn held(&self) -> Option<&[u8]>
+        ensures all { IfSome result (λ bytes. text self.now ≡ Some bytes.now) }
+        ensures read { IfSome result (λ _. IsReadThrough (text self.now) (read_to self.now)) }
+    {
+        None
+    }
+
     /// Puts bytes that the device holds from `offset` on at the front of the buffer, and returns
     /// how many: 0 only if `offset` is at or past the end, or if the buffer is empty. There may be
     /// fewer than the device holds and the buffer takes. The rest of the buffer is not specified,
@@ -107,5 +120,10 @@ pub trait Reread: Source {
         ensures end { IfOk result (λ count. count ≡ 0 → 0 < length buffer.new
             → EndsBy (text self.old) offset) }
         ensures same { Keeps (text self.old) (text self.new) }
+        ensures grows { ReachGrows (text self.old) (read_to self.old) (read_to self.new) }
+        ensures joins { IfOk result (λ count. ReachJoins (text self.old) (read_to self.old)
+            (read_to self.new) offset count) }
+        ensures given { ReachIsGiven (text self.old) (read_to self.old) (read_to self.new)
+            offset result }
         ensures cause { Counts (Self.failures self.old) (Self.failures self.new) result };
 }
