@@ -16,10 +16,10 @@ use crate::left::{Finished, finish, remove_left};
 use crate::names::{Opened, PlaceFiles, open_in_place, turn_down};
 use crate::new_file::{make, refuse, remove, sync_folder, sync_found};
 use crate::new_tail::{Cut, NewTail, make_tail};
-use device::{FileLog, FileSink, FileSource};
+use device::{FileLog, FileSink, FileSource, MemorySource};
 use job_files::{Call, NotedFile, Notes, Refusal, folder_of};
 use page::Fault;
-use recovery::{Report, recover_by_pieces, recover_large_by_pieces};
+use recovery::{Report, read_store_whole, recover_in_place};
 use restart::Options;
 use std::alloc::Global;
 use std::cell::Cell;
@@ -88,12 +88,12 @@ fn recover_made<'x, R: Files<File = File> + Clock>(
     let is_large = is_large(&store);
     let new_tail = NewTail::new(rt, alloc, files, (new_tail, lock), cut);
     let mut log = FileSource::sized(NotedFile::new(log, rt, &files.log));
-    let mut store = FileSource::new(NotedFile::new(store, rt, &files.store));
+    let mut store = FileSource::sized(NotedFile::new(store, rt, &files.store));
     let mut tail = FileSink::new(new_tail);
     let mut out_log = FileLog::new(NotedFile::new(out_log, rt, &files.out_log));
     let mut out_store = FileSink::new(NotedFile::new(new_store, rt, &files.new_store));
     if is_large {
-        return recover_large_by_pieces(
+        return recover_in_place(
             alloc,
             &mut log,
             &mut store,
@@ -103,10 +103,11 @@ fn recover_made<'x, R: Files<File = File> + Clock>(
             options,
         );
     }
-    recover_by_pieces(
+    let bytes = read_store_whole(alloc, &mut log, &mut store)?;
+    recover_in_place(
         alloc,
         &mut log,
-        &mut store,
+        &mut MemorySource::new(&bytes),
         &mut tail,
         &mut out_log,
         &mut out_store,

@@ -39,8 +39,7 @@ pub use recovery::{
     Recovery, Report, TailFile, audit_texts, audit_texts_over, continue_log,
     no_fault_of_a_recovery, no_fault_of_lawful_texts, no_fault_of_lawful_texts_over,
     one_audit_fault, one_audit_fault_over, one_recovery, one_recovery_fault, recover,
-    recover_by_pieces, recover_copying, recover_large_by_pieces, recover_large_copying,
-    recovery_alone, report_text,
+    read_store_whole, recover_copying, recover_in_place, recovery_alone, report_text,
 };
 pub use redo::{Gate, OpenGate, Parting};
 pub use restart::{

@@ -11,9 +11,13 @@ abbrev pub EndsBy : (text : Option (List ℕ)) → (offset : ℕ) → Type 0
 EndsBy text offset = IfSome text (λ held. length held ≤ offset)
 
 -- HOW FAR the bytes of a device are read without a gap, if they are known, before and after a reading
+-- as far as to an offset, at least
+abbrev pub ReachesTo : (text : Option (List ℕ)) → (offset read_to : ℕ) → Type 0
+ReachesTo text offset read_to = IfSome text (λ _. offset ≤ read_to)
+
 -- no less far than before
 abbrev pub ReachGrows : (text : Option (List ℕ)) → (before after : ℕ) → Type 0
-ReachGrows text before after = IfSome text (λ _. before ≤ after)
+ReachGrows text before after = ReachesTo text before after
 
 -- to the end of what was read, if that began where they were read to, or before
 abbrev pub ReachJoins : (text : Option (List ℕ)) → (before after offset count : ℕ) → Type 0

@@ -52,10 +52,6 @@ impl<'a> Reread for MemorySource<'a> {
 
     ghost read_to = { λ source. length (bytes_held source) };
 
-    fn held(&self) -> Option<&[u8]> {
-        Some(self.all)
-    }
-
     fn read_at(&mut self, offset: u64, buffer: &mut [u8]) -> Result<usize, Failed> {
         let held = bytes_from(self.all, offset);
         let count = held.len().min(buffer.len());

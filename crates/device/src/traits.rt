@@ -1,13 +1,13 @@
 //! What a device is.
 
-ghost use Rattle.std.specs.Prelude.{◌≡◌, ℕ, List, Some, None, IfOk, IfSome, OnOk, OnErr, ◌<◌, length};
+ghost use Rattle.std.specs.Prelude.{◌≡◌, ℕ, List, None, IfOk, OnOk, OnErr, ◌<◌, length};
 ghost use Rattle.std.specs.declared.option.Option.{Option};
 ghost use Rattle.std.specs.Io.{ReadsAtMost, WritesAtMost};
 ghost use Rattle.std.specs.Io.KnownBytes.{Keeps, ReadConsumes, WriteAppends};
 ghost use Rattle.device.specs.Failures.{Counts};
 ghost use Rattle.device.specs.Transfer.{Flushes};
 ghost use Rattle.device.specs.Continued.{Cuts, Shortens};
-ghost use Rattle.device.specs.Reread.{EndsBy, IsReadThrough, ReachGrows, ReachIsGiven, ReachJoins, ReadsFrom};
+ghost use Rattle.device.specs.Reread.{EndsBy, ReachGrows, ReachIsGiven, ReachJoins, ReadsFrom};
 
 /// A device failed. It does not say why.
 #[derive(Clone, Copy, Debug, PartialEq, Eq, Drop)]
@@ -97,15 +97,6 @@ pub trait Reread: Source {
     /// How far these bytes are read without a gap: the offset before which each of them was read,
     /// or is in memory.
     ghost read_to: { Self → ℕ } = { λ _. 0 };
-
-    /// All bytes that the device holds, if they are in memory; otherwise `None`, and they are read
-    /// by `read_at`.
-    fn held(&self) -> Option<&[u8]>
-        ensures all { IfSome result (λ bytes. text self.now ≡ Some bytes.now) }
-        ensures read { IfSome result (λ _. IsReadThrough (text self.now) (read_to self.now)) }
-    {
-        None
-    }
 
     /// Puts bytes that the device holds from `offset` on at the front of the buffer, and returns
     /// how many: 0 only if `offset` is at or past the end, or if the buffer is empty. There may be

@@ -4,7 +4,7 @@ use Rattle.std.proofs.KnownBytes.{Appends-trans, Keeps-refl}
 use Rattle.std.proofs.lemmas.List.{drop-take}
 use Rattle.std.specs.Io.KnownBytes.{Appends}
 use Rattle.page.specs.declared.fault.Fault.{Fault}
-use Rattle.page.specs.declared.fault.Fault.TheVariants.{ReadLog, WriteLog, WriteStore}
+use Rattle.page.specs.declared.fault.Fault.TheVariants.{ReadLog, ReadStore, WriteLog, WriteStore}
 use Rattle.log_laws.specs.Meaning.{BasePages}
 use Rattle.wal.specs.Reads.{Reads}
 use Rattle.log_laws.specs.Tail.{with_tail}
@@ -55,12 +55,14 @@ makes_copy store_left log store made new_store read measured recovers =
 module _ {L S : Type 0} (out_log : Sink L) (a b : L) (out_store : Sink S) (c d : S) (new_log new_store : List ℕ) where
   pub copied_resource : (e : Fault) → LeavesCopied out_log a b out_store c d new_log new_store e → IsResourceOrDevice e
   copied_resource ReadLog h = tt
+  copied_resource ReadStore h = tt
   copied_resource WriteLog h = tt
   copied_resource WriteStore h = tt
   copied_resource e h = absurd h
 
   pub copied_cause : (log_left store_left : Option (List ℕ)) (options : Options) (e : Fault) → LeavesCopied out_log a b out_store c d new_log new_store e → DeviceCause log_left store_left options e
   copied_cause log_left store_left options ReadLog h = tt
+  copied_cause log_left store_left options ReadStore h = tt
   copied_cause log_left store_left options WriteLog h = tt
   copied_cause log_left store_left options WriteStore h = tt
   copied_cause log_left store_left options e h = absurd h
@@ -68,6 +70,7 @@ module _ {L S : Type 0} (out_log : Sink L) (a b : L) (out_store : Sink S) (c d :
   pub copied_cut : {base : BasePages} {log store : List ℕ} (bytes : AreLawful base log store) → Reads new_log (with_tail bytes.decoded.read) 0
       → (e : Fault) → LeavesCopied out_log a b out_store c d new_log new_store e → LeavesCutCopied out_log a b (record { base = base; log = log; store = store; bytes = bytes }) e
   copied_cut bytes reads ReadLog h = inr (leaves_cut bytes new_log reads out_log a b out_store c d new_store WriteLog h)
+  copied_cut bytes reads ReadStore h = inr (leaves_cut bytes new_log reads out_log a b out_store c d new_store WriteStore h)
   copied_cut bytes reads WriteLog h = leaves_cut bytes new_log reads out_log a b out_store c d new_store WriteLog h
   copied_cut bytes reads WriteStore h = leaves_cut bytes new_log reads out_log a b out_store c d new_store WriteStore h
   copied_cut bytes reads e h = absurd h
@@ -76,6 +79,7 @@ module _ {L S : Type 0} (out_log : Sink L) (a b : L) (out_store : Sink S) (c d :
   pub copied_out : (made : Makes log_left store_left) (e : Fault) → LeavesCopied out_log a b out_store c d made.new_log made.new_store e
       → IsOutCopied out_log a b out_store c d log_left store_left e
   copied_out made ReadLog h = inr (made, h)
+  copied_out made ReadStore h = inr (made, h)
   copied_out made WriteLog h = (made, h)
   copied_out made WriteStore h = (made, h)
   copied_out made e h = absurd h
@@ -84,6 +88,7 @@ module _ {L S : Type 0} (out_log : Sink L) (a b : L) (out_store : Sink S) (c d :
 pub nothing_copied : {L S : Type 0} (log : Sink L) (a : L) (store : Sink S) (b : S) (log_left store_left : Option (List ℕ)) (e : Fault) → IsOfLog e
     → IsOutCopied log a a store b b log_left store_left e
 nothing_copied log a store b log_left store_left ReadLog h = inl (Keeps-refl (log.taken a), Keeps-refl (store.taken b))
+nothing_copied log a store b log_left store_left ReadStore h = absurd h
 nothing_copied log a store b log_left store_left WriteLog h = absurd h
 nothing_copied log a store b log_left store_left WriteStore h = absurd h
 nothing_copied log a store b log_left store_left e h = (Keeps-refl (log.taken a), Keeps-refl (store.taken b))

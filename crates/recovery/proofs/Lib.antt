@@ -13,6 +13,5 @@ pub mod TailLength
 pub mod Taken
 pub mod TailFiles
 pub mod InPlace
-pub mod Large
-pub mod LargeCopies
+pub mod StoreAgain
 pub mod Rewritten

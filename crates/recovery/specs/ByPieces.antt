@@ -1,7 +1,7 @@
--- What a recovery makes of a log that it reads in pieces, and its errors (own).
+-- What a recovery makes of a log and a store that it reads in pieces, and its errors (own).
 use Rattle.std.specs.Prelude.{◌≡◌, ◌⊎◌, ◌+◌, ◌-◌, ◌++◌, ℕ, List, Option, Some, drop, length, take, Result, Err, MatchResult, ⊤}
 use Rattle.page.specs.declared.fault.Fault.{Fault}
-use Rattle.page.specs.declared.fault.Fault.TheVariants.{NoResource, ReadLog, ReadStore, WriteLog, WriteStore}
+use Rattle.page.specs.declared.fault.Fault.TheVariants.{NoResource, ReadLog, ReadStore, WriteLog, WriteStore, BadWorkers, BadParting}
 use Rattle.page.specs.declared.page.Page.{Page}
 use Rattle.page.specs.Store.{StoreContent}
 use Rattle.page.specs.File.{SpellsStore, store_text}
@@ -22,6 +22,11 @@ use Rattle.recovery.specs.TailFile.{sum_of, end_of}
 use Rattle.restart.specs.Options.{AreInRange}
 use Rattle.recovery.specs.Recovery.{AreLawful, Recovers, Recovered, RecoveryCause, Decodes}
 use Rattle.recovery.specs.Devices.{IsFaultOf, DeviceCause}
+use Rattle.recovery.specs.StoreChanges.{DecodesLsns}
+use Rattle.page.specs.declared.profile.TheConstants.{PAGES}
+use Rattle.page.specs.declared.lsns.StoreLsns.{StoreLsns}
+use Rattle.changes.specs.Changes.{PageChange}
+use Rattle.changes.specs.Pages.{ShowsChanges}
 
 -- the fault of a log's device, of its bytes or of a restart by it, or a lack of memory: that of no other device
 abbrev pub IsOfLog : Fault → Type 0
@@ -50,6 +55,25 @@ pub record StoreFails {T : Type 0} (answer : Result T Fault) (before after : ℕ
   pub log_blamed : answer ≡ Err ReadLog → (after ≡ before) ⊎ (after ≡ before + 1)
   pub innocent : (answer ≡ Err ReadStore → ⊥) → (answer ≡ Err ReadLog → ⊥) → after ≡ before
 
+-- THE LOG'S DEVICE comes first: this is true of a fault that is returned only after that was read to its end, which is any but a lack of
+-- memory and its own
+abbrev pub OnceLogRead : (log_read : Type 0) → Fault → Type 0
+OnceLogRead log_read NoResource = ⊤
+OnceLogRead log_read ReadLog = ⊤
+OnceLogRead log_read e = log_read
+
+-- the same for a recovery: of a fault of the store's device only if that was not read to its end either, and not of one of writing or of
+-- the options
+abbrev pub LogComesFirst : (log_read store_read : Type 0) → Fault → Type 0
+LogComesFirst log_read store_read NoResource = ⊤
+LogComesFirst log_read store_read ReadLog = ⊤
+LogComesFirst log_read store_read WriteLog = ⊤
+LogComesFirst log_read store_read WriteStore = ⊤
+LogComesFirst log_read store_read BadWorkers = ⊤
+LogComesFirst log_read store_read BadParting = ⊤
+LogComesFirst log_read store_read ReadStore = log_read ⊎ store_read
+LogComesFirst log_read store_read e = log_read
+
 -- the bytes are a log's, with or without a torn tail
 abbrev pub IsLog : List ℕ → Type 0
 IsLog text = (whole : LogContent) × (torn : ℕ) × Reads text whole torn
@@ -57,10 +81,6 @@ IsLog text = (whole : LogContent) × (torn : ℕ) × Reads text whole torn
 -- the log's device failed, or this is the error of the bytes that it holds
 abbrev pub LogCause : (held : Option (List ℕ)) → Fault → Type 0
 LogCause held e = (text : List ℕ) → held ≡ Some text → (e ≡ ReadLog) ⊎ LogFault text e
-
--- P is true if this is what a decoder returns for some bytes
-abbrev pub IfDecoded : Result StoreContent Fault → Type 0 → Type 0
-IfDecoded decoded P = (store : List ℕ) → Decodes store decoded → P
 
 -- THE LOG that is made: what is kept of the old one, followed by the frames
 abbrev pub continued_log : (log : List ℕ) → Continuation → List ℕ
@@ -86,26 +106,65 @@ pub record HasSums (made : Continuation) (file : TailFile) (log : List ℕ) : Ty
 abbrev pub IfMeasured : Option (List ℕ) → Continuation → (List ℕ → Type 0) → Type 0
 IfMeasured held made P = (log : List ℕ) → held ≡ Some log → MeasuresLog log made → P log
 
--- WHAT IS MADE of the bytes that a log's device holds, and of bytes that are those of the store
--- it is the recovery of these bytes
-abbrev pub IsMadeOf : (held : Option (List ℕ)) → (IsStore : List ℕ → Type 0) → Made → Type 0
-IsMadeOf held IsStore x =
-    (log store : List ℕ) → held ≡ Some log → IsStore store → Recovers log store (continued_log log x.log) (store_text x.store) x.log.report
+-- WHAT IS KNOWN OF THE DEVICES
+-- P is true of all that both hold, as bytes that are known
+abbrev pub ForTexts : {A : Type 0} → (log_held store_held : Option (List ℕ)) → (Option (List ℕ) → Option (List ℕ) → A → Type 0) → A → Type 0
+ForTexts log_held store_held P x = (log store : List ℕ) → log_held ≡ Some log → store_held ≡ Some store → P (Some log) (Some store) x
+
+-- P is true of these bytes
+abbrev pub ForBytes : (log_held store_held : Option (List ℕ)) → (Option (List ℕ) → Option (List ℕ) → Type 0) → Type 0
+ForBytes log_held store_held P = (log store : List ℕ) → log_held ≡ Some log → store_held ≡ Some store → P (Some log) (Some store)
+
+-- it is the cause of an error, if it is known what both devices hold
+abbrev pub TextsCause : (log_held store_held : Option (List ℕ)) → Options → Fault → Type 0
+TextsCause log_held store_held options e = ForTexts log_held store_held (λ log store. DeviceCause log store options) e
+
+-- WHAT IS MADE
+-- the new store, if these are the pages after the changes
+abbrev pub store_made : Made → (after : List Page) → List ℕ
+store_made x after = store_text (record { master = x.master; pages = after })
+
+-- the pages of this store change to those of the store that the recovery of these bytes leaves
+abbrev pub RecoversBy : (log store : List ℕ) → StoreContent → Made → Type 0
+RecoversBy log store before x =
+    (after : List Page) × ShowsChanges x.changes before.pages after × Recovers log store (continued_log log x.log) (store_made x after) x.log.report
+
+-- the same for lawful input
+abbrev pub RestoresBy : BasePages → (read : LogContent) → (log : List ℕ) → StoreContent → Made → Type 0
+RestoresBy base read log before x =
+    (after : List Page) × ShowsChanges x.changes before.pages after × Recovered base read before (continued_log log x.log) (store_made x after) x.log.report
+
+-- it is so for each store of which this is true
+abbrev pub IsMadeOf : (held : Option (List ℕ)) → (IsOf : StoreContent → Type 0) → Made → Type 0
+IsMadeOf held IsOf x = (log store : List ℕ) (before : StoreContent) → held ≡ Some log → SpellsStore store before → IsOf before → RecoversBy log store before x
+
+-- and if the bytes are lawful, it restores them, or the error is a lack of memory or the log's device
+abbrev pub IsMadeLawful : (held : Option (List ℕ)) → (IsOf : (store : List ℕ) → StoreContent → Type 0) → Result Made Fault → Type 0
+IsMadeLawful held IsOf answer =
+    (base : BasePages) (log store : List ℕ) (bytes : AreLawful base log store) → held ≡ Some log → IsOf store bytes.decoded.before
+    → MatchResult answer (RestoresBy base bytes.decoded.read log bytes.decoded.before) (IsFaultOf ReadLog)
+
+-- what the bytes encode of which a reader returned this
+pub record Remakes (log store : List ℕ) (x : Made) : Type 0 where
+  pub before : StoreContent
+  pub spells : SpellsStore store before
+  pub recovers : RecoversBy log store before x
+
+abbrev pub IsMadeRead : (held : Option (List ℕ)) → Result StoreLsns Fault → Made → Type 0
+IsMadeRead held decoded x = (log store : List ℕ) → held ≡ Some log → DecodesLsns store decoded → Remakes log store x
+
+-- there are no more changes than a store may have pages
+abbrev pub AreFew : (IsRead : (store : List ℕ) → Type 0) → Made → Type 0
+AreFew IsRead x = (store : List ℕ) → IsRead store → length x.changes ≤ PAGES
+
+-- P is true if this is what a reader returns for some bytes
+abbrev pub IfRead : Result StoreLsns Fault → Type 0 → Type 0
+IfRead decoded P = (store : List ℕ) → DecodesLsns store decoded → P
 
 -- this is the error of these bytes, whatever the options are
 abbrev pub IsCauseOf : (held : Option (List ℕ)) → (IsStore : List ℕ → Type 0) → Fault → Type 0
 IsCauseOf held IsStore e =
     (log store : List ℕ) (options : Options) → held ≡ Some log → IsStore store → AreInRange options → ReadingCause log store options e
-
--- if they are lawful, it is what a recovery makes of lawful input, or the error is a lack of memory or the log's device
-abbrev pub IsMadeLawful : (held : Option (List ℕ)) → (IsOf : (store : List ℕ) → StoreContent → Type 0) → Result Made Fault → Type 0
-IsMadeLawful held IsOf answer =
-    (base : BasePages) (log store : List ℕ) (bytes : AreLawful base log store) → held ≡ Some log → IsOf store bytes.decoded.before
-    → MatchResult answer (λ x. Recovered base bytes.decoded.read bytes.decoded.before (continued_log log x.log) (store_text x.store) x.log.report) (IsFaultOf ReadLog)
-
--- the error of a recovery over devices, if it is known what the log's device holds
-abbrev pub RereadCause : (log_held store_left : Option (List ℕ)) → Options → Fault → Type 0
-RereadCause log_held store_left options e = (log : List ℕ) → log_held ≡ Some log → DeviceCause (Some log) store_left options e
 
 -- ON PAGES of a store with this master, in memory or not
 module _ {P : Type 0} (pages : Pages P) where

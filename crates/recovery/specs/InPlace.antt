@@ -2,7 +2,7 @@
 use Rattle.std.specs.Prelude.{◌≡◌, ℕ, ◌-◌, ◌≤◌, ◌<◌, ◌⊎◌, List, ◌++◌, drop, length, take, Option, Some, IfSome}
 use Rattle.std.specs.Io.KnownBytes.{Appends, Keeps}
 use Rattle.page.specs.declared.fault.Fault.{Fault}
-use Rattle.page.specs.declared.fault.Fault.TheVariants.{WriteLog, WriteStore}
+use Rattle.page.specs.declared.fault.Fault.TheVariants.{ReadStore, WriteLog, WriteStore}
 use Rattle.page.specs.Store.{StoreContent}
 use Rattle.page.specs.File.{store_text}
 use Rattle.log_laws.specs.Meaning.{BasePages}
@@ -19,6 +19,8 @@ use Rattle.recovery.specs.Text.{ReportContent}
 use Rattle.recovery.specs.Recovery.{Recovers, Recovered, AreLawful, AreCut, LawfulInput}
 use Rattle.recovery.specs.Devices.{SourcesGave, AreCutOf}
 use Rattle.recovery.specs.TailFile.{tail_text, end_of, sum_of}
+use Rattle.recovery.specs.StoreChanges.{ForShown}
+use Rattle.changes.specs.Changes.{PageChange}
 
 -- THE LOG CONTINUED
 -- a device that held some bytes holds the first of them, followed by the frames
@@ -102,15 +104,28 @@ module _ {L S : Type 0} (log : Sink L) (log_old log_new : L) (store : Sink S) (s
       Continues kept frames (log.taken log_old) (log.taken log_new) × TookBeginning (store.taken store_old) (store.taken store_new) new_store
   LeavesInPlace kept frames new_store e = ⊥
 
-  -- the same by the file of the tail, and the store that was made
-  abbrev pub LeavesPart : TailFile → StoreContent → Fault → Type 0
-  LeavesPart file made e = LeavesInPlace file.kept file.frames.now (store_text made) e
-
   -- any fault: a fault of another device or of the input leaves all as it was
   abbrev pub IsLeftIn : (log_left store_left : Option (List ℕ)) → Fault → Type 0
   IsLeftIn log_left store_left WriteLog = (made : Prepares log_left store_left) × LeavesInPlace made.kept made.frames made.new_store WriteLog
   IsLeftIn log_left store_left WriteStore = (made : Prepares log_left store_left) × LeavesInPlace made.kept made.frames made.new_store WriteStore
   IsLeftIn log_left store_left e = Keeps (log.taken log_old) (log.taken log_new) × Keeps (store.taken store_old) (store.taken store_new)
+
+  -- a fault of the store's source, when it is read again, leaves what a fault of the store's sink leaves
+  abbrev pub LeavesReread : (kept : ℕ) (frames new_store : List ℕ) → Fault → Type 0
+  LeavesReread kept frames new_store ReadStore = LeavesInPlace log log_old log_new store store_old store_new kept frames new_store WriteStore
+  LeavesReread kept frames new_store e = LeavesInPlace log log_old log_new store store_old store_new kept frames new_store e
+
+  -- by the file of a tail, if it is known that the store's source holds a store that the changes are of
+  abbrev pub LeavesChanged : (held : Option (List ℕ)) → TailFile → (master : ℕ) → List PageChange → Fault → Type 0
+  LeavesChanged held file master changes e =
+      ForShown held changes (λ shown. LeavesReread file.kept file.frames.now (store_text (record { master = master; pages = shown })) e)
+
+  -- after any fault: after a fault of the store's source nothing is changed, or all is left that a fault of the store's sink leaves
+  abbrev pub IsLeftReread : (log_left store_left : Option (List ℕ)) → Fault → Type 0
+  IsLeftReread log_left store_left ReadStore =
+      IsLeftIn log log_old log_new store store_old store_new log_left store_left ReadStore
+      ⊎ IsLeftIn log log_old log_new store store_old store_new log_left store_left WriteStore
+  IsLeftReread log_left store_left e = IsLeftIn log log_old log_new store store_old store_new log_left store_left e
 
 -- LAWFUL INPUT, and what the log's device holds in the end
 module _ {S : Type 0} (log_after : Option (List ℕ)) (store : Sink S) (old new : S) where

@@ -10,5 +10,3 @@ pub mod InPlace
 pub mod ByPieces
 pub mod Copying
 pub mod StoreChanges
-pub mod Large
-pub mod LargeCopying

@@ -1,10 +1,9 @@
 //! Recovery: from the bytes of a log and a store to a new log, a recovered store and a report. And
 //! the audit of such bytes.
 //!
-//! Entry points: [`recovery_alone`] from buffer to buffer, and [`recover`] over devices.
-//! [`recover_copying`] and, in place, [`recover_by_pieces`] hold a piece of the log in memory;
-//! [`recover_large_copying`] and [`recover_large_by_pieces`] a piece of the log and one of the
-//! store.
+//! Entry points: [`recovery_alone`] from buffer to buffer; [`recover`] over devices, with both logs
+//! and both stores in memory; [`recover_copying`] and, in place, [`recover_in_place`] with a piece
+//! of the log and one of the store in memory.
 //!
 //! The promise: on lawful bytes the new log is the old one and its tail, and the new store has
 //! exactly the effects of the committed and in-doubt transactions. A recovery may be killed at any
@@ -20,14 +19,11 @@
 //! - `log_text`, `decoding`, `store_pieces`: the log read and decoded while the store is read
 //!   (`LogText`).
 //! - `log_bytes`: the bytes of the old log that are kept.
-//! - `in_place`, `tail_file`: how a log is continued in place, and the file by which a later run
-//!   finishes it (`InPlace`, `TailFile`).
-//! - `by_pieces`, `log_again`, `reading`: `recover_by_pieces`, in place, with a piece of the log at
-//!   a time (`ByPieces`).
-//! - `copying`: `recover_copying`, into a new log, with a piece at a time (`Copying`).
-//! - `large_store`, `large_copying`, `store_changes`: both again with a store that is read in
-//!   pieces too, `recover_large_by_pieces` and `recover_large_copying` (`Large`, `LargeCopying`,
-//!   `StoreChanges`).
+//! - `by_pieces`, `log_again`, `store_changes`, `reading`: what is made of a log and a store that
+//!   are read in pieces (`ByPieces`, `StoreChanges`).
+//! - `copying`: `recover_copying`, into a new log and a new store (`Copying`).
+//! - `in_place`, `tail_file`: `recover_in_place`, which continues the log in place, and the file by
+//!   which a later run finishes it (`InPlace`, `TailFile`).
 //! - `texts`: the audit of bytes (`Audit`).
 //! - `laws`: one recovery, at most one fault (`OneAnswer`).
 #![tactic(auto)]
@@ -37,8 +33,6 @@ mod copying;
 mod decoding;
 mod devices;
 mod in_place;
-mod large_copying;
-mod large_store;
 mod laws;
 mod log_again;
 mod log_bytes;
@@ -52,12 +46,10 @@ mod tail_file;
 mod texts;
 mod unthreaded;
 
-pub use by_pieces::recover_by_pieces;
 pub use copying::recover_copying;
 pub use devices::{read_source, recover};
-pub use in_place::continue_log;
-pub use large_copying::recover_large_copying;
-pub use large_store::recover_large_by_pieces;
+pub use in_place::{continue_log, recover_in_place};
+pub use log_again::read_store_whole;
 pub use laws::{
     no_fault_of_a_recovery, no_fault_of_lawful_texts, no_fault_of_lawful_texts_over,
     one_audit_fault, one_audit_fault_over, one_recovery, one_recovery_fault,

@@ -3,19 +3,20 @@
 
 ghost use Rattle.std.specs.Prelude.{◌≡◌, ◌≢◌, ◌<◌, ◌≤◌, ◌+◌, ◌^◌, ◌⊎◌, length, IfOk, IfErr, OnOk, IfSome, IsOkUnless};
 ghost use Rattle.std.specs.Io.KnownBytes.{IsAtEnd, Keeps};
+ghost use Rattle.device.specs.Reread.{IsReadThrough};
 ghost use Rattle.page.specs.declared.fault.Fault.TheVariants.{NoResource, ReadLog, ReadStore};
-ghost use Rattle.recovery.specs.Devices.{IsFaultOf, IsDecoded};
+ghost use Rattle.recovery.specs.Devices.{Gave, IsFaultOf};
 ghost use Rattle.recovery.specs.TailFile.{IsEndSum, IsSumOn, sum_of};
-ghost use Rattle.recovery.specs.ByPieces.{IsOfLog, fault_of, StoreFails, IsLog, LogCause};
+ghost use Rattle.recovery.specs.ByPieces.{IsOfLog, OnceLogRead, fault_of, StoreFails, IsLog, LogCause};
 ghost use Rattle.recovery.specs.declared.log_again.TheConstants.{ROOM};
 ghost use Rattle.recovery.specs.declared.store_pieces.TheConstants.{PIECE};
 ghost use Rattle.recovery.specs.Calls.{Blames, FailsMore, ForHeld, ForKept, ForPiece, ForPieceHeld, ForRest};
 ghost use Rattle.recovery.specs.StoreChanges.{AreDecodedLsns};
 ghost use Rattle.std.specs.Option.{ForSome};
 
+use crate::devices::read_source;
 use crate::reading::read_from;
 use crate::store_changes::{DecodedLsns, read_lsns};
-use crate::store_pieces::{DecodedStore, read_store};
 use crate::tail_file::{END_BYTES, SUM_OF_NONE, sum_on};
 use device::{Reread, Source};
 use page::Fault;
@@ -29,6 +30,10 @@ const FRAMES: usize = (1 << 18) * (1 + LONGEST_FRAME / (1 << 18));
 
 /// How many bytes of a log are in memory at once: the frames, and a header before them.
 pub const ROOM: usize = BASED_HEADER_BYTES + FRAMES;
+
+/// How many bytes of a log are in memory at once if it is read only to see whether its device
+/// fails.
+const SMALL_ROOM: usize = 4096;
 
 /// A log that is read in pieces has fewer bytes than the sum of this and the length of the room.
 const LONGEST_LOG: u64 = 1 << 63;
@@ -59,8 +64,10 @@ pub fn fault_of(stopped: PassFault) -> Fault
 /// Reads a log's device from its beginning to its end without looking at the bytes: if it fails,
 /// that is found before anything else.
 pub fn read_through<L: Reread>(log: &mut L, room: &mut [u8]) -> Result<(), Fault>
-    requires { length room.old ≡ ROOM }
+    requires some { 0 < length room.old }
+    requires few { length room.old ≤ ROOM }
     ensures end { OnOk result (IfSome (L.text log.old) (λ held. length held < 2 ^ 64)) }
+    ensures read { OnOk result (IsReadThrough (L.text log.old) (L.read_to log.new)) }
     ensures same { Keeps (L.text log.old) (L.text log.new) }
     ensures fault { IfErr result (IsFaultOf ReadLog) }
     ensures cause { Blames ReadLog L.failures log.old log.new result }
@@ -68,10 +75,10 @@ pub fn read_through<L: Reread>(log: &mut L, room: &mut [u8]) -> Result<(), Fault
     let mut offset: u64 = 0;
     while offset < LONGEST_LOG {
         let count = read_from(log, offset, room, Fault::ReadLog)?;
-        if count < ROOM {
+        if count < room.len() {
             return Ok(());
         }
-        offset += ROOM as u64;
+        offset += room.len() as u64;
     }
     // No device holds this many bytes.
     Err(Fault::NoResource)
@@ -79,9 +86,12 @@ pub fn read_through<L: Reread>(log: &mut L, room: &mut [u8]) -> Result<(), Fault
 
 /// The fault to return for this one. A failure of a log's device comes before all other faults, so
 /// the device is read to its end: `ReadLog` if it fails there, otherwise the fault as it was.
-fn first_fault<L: Reread>(log: &mut L, fault: Fault, room: &mut [u8]) -> Fault
-    requires { length room.old ≡ ROOM }
-    ensures fault { (result ≡ ReadLog) ⊎ (result ≡ fault) }
+/// `NoResource` if there are more bytes than any log has.
+pub fn first_fault<L: Reread>(log: &mut L, fault: Fault, room: &mut [u8]) -> Fault
+    requires some { 0 < length room.old }
+    requires few { length room.old ≤ ROOM }
+    ensures fault { IsFaultOf ReadLog result ⊎ (result ≡ fault) }
+    ensures read { OnceLogRead (IsReadThrough (L.text log.old) (L.read_to log.new)) result }
     ensures unread { fault ≡ ReadLog → log.new ≡ log.old }
     ensures blamed { fault ≢ ReadLog → result ≡ ReadLog
         → L.failures log.new ≡ L.failures log.old + 1 }
@@ -90,8 +100,8 @@ fn first_fault<L: Reread>(log: &mut L, fault: Fault, room: &mut [u8]) -> Fault
     match fault {
         Fault::ReadLog => Fault::ReadLog,
         other => match read_through(log, room) {
-            Err(Fault::ReadLog) => Fault::ReadLog,
-            _ => other,
+            Ok(()) => other,
+            Err(first) => first,
         },
     }
 }
@@ -100,7 +110,8 @@ fn first_fault<L: Reread>(log: &mut L, fault: Fault, room: &mut [u8]) -> Fault
 /// is read to its end, otherwise that of the pass.
 pub fn fault_after<L: Reread>(log: &mut L, stopped: PassFault, room: &mut [u8]) -> Fault
     requires { length room.old ≡ ROOM }
-    ensures fault { (result ≡ ReadLog) ⊎ (result ≡ fault_of stopped) }
+    ensures fault { IsFaultOf ReadLog result ⊎ (result ≡ fault_of stopped) }
+    ensures read { OnceLogRead (IsReadThrough (L.text log.old) (L.read_to log.new)) result }
     // The pass may have counted a failure already.
     ensures blamed { result ≡ ReadLog → FailsMore L.failures log.old log.new stopped 1 }
     ensures innocent { result ≢ ReadLog → FailsMore L.failures log.old log.new stopped 0 }
@@ -108,33 +119,36 @@ pub fn fault_after<L: Reread>(log: &mut L, stopped: PassFault, room: &mut [u8]) 
     first_fault(log, fault_of(stopped), room)
 }
 
-/// Reads a store before its log. Returns what all bytes of its source encode, or the error of these
-/// bytes. If the source failed, or memory was refused, a failure of the log's device comes first.
-pub fn read_store_first<L: Reread, S: Source>(
+/// All bytes that a store's source has left, which are read before its log. Then the store can be
+/// read again, by a [`MemorySource`](device::MemorySource).
+///
+/// The errors are: `ReadLog`, if the store's source failed, or memory was refused, and `log` fails
+/// too when it is read to its end; `ReadStore`, if the source failed; `NoResource`, if memory was
+/// refused.
+pub fn read_store_whole<L: Reread, S: Source>(
     alloc: Global,
     log: &mut L,
     store: &mut S,
-    room: &mut [u8],
-    pieces: &mut [u8],
-) -> Result<DecodedStore, Fault>
-    requires room { length room.old ≡ ROOM }
-    requires pieces { length pieces.old ≡ PIECE }
-    ensures read { IfOk result (IsDecoded (S.left store.old)) }
+) -> Result<Vec<u8>, Fault>
+    ensures gave { IfOk result (λ bytes. Gave (S.left store.old) bytes.items) }
     ensures end { OnOk result (IsAtEnd (S.left store.new)) }
     ensures log_unread { OnOk result (log.new ≡ log.old) }
+    ensures log_read { IfErr result
+        (OnceLogRead (IsReadThrough (L.text log.old) (L.read_to log.new))) }
     ensures fault { IfErr result (λ e. (e ≡ ReadLog) ⊎ IsFaultOf ReadStore e) }
     ensures log_source { Blames ReadLog L.failures log.old log.new result }
     ensures store_source { StoreFails result (S.failures store.old) (S.failures store.new) }
 {
-    match read_store(alloc, store, pieces) {
-        Ok(decoded) => Ok(decoded),
-        Err(fault) => Err(first_fault(log, fault, room)),
+    match read_source(alloc, store, Fault::ReadStore) {
+        Ok(bytes) => Ok(bytes),
+        Err(fault) => Err(first_fault(log, fault, &mut [0; SMALL_ROOM])),
     }
 }
 
-/// As [`read_store_first`], of the PageLSNs alone: the store's device is read at offsets, from its
-/// beginning to its end, and still holds the same bytes afterwards.
-pub fn read_lsns_first<L: Reread, R: Reread>(
+/// Reads the PageLSNs of a store before its log: the store's device is read from its beginning to
+/// its end, and still holds the same bytes afterwards. Returns what the bytes encode, or their
+/// error. If the device failed, or memory was refused, a failure of the log's device comes first.
+pub fn read_store_first<L: Reread, R: Reread>(
     alloc: Global,
     log: &mut L,
     store: &mut R,
@@ -144,8 +158,11 @@ pub fn read_lsns_first<L: Reread, R: Reread>(
     requires room { length room.old ≡ ROOM }
     requires pieces { length pieces.old ≡ PIECE }
     ensures read { IfOk result (AreDecodedLsns (R.text store.old)) }
+    ensures end { OnOk result (IsReadThrough (R.text store.old) (R.read_to store.new)) }
     ensures kept { OnOk result (Keeps (R.text store.old) (R.text store.new)) }
     ensures log_unread { OnOk result (log.new ≡ log.old) }
+    ensures log_read { IfErr result
+        (OnceLogRead (IsReadThrough (L.text log.old) (L.read_to log.new))) }
     ensures fault { IfErr result (λ e. (e ≡ ReadLog) ⊎ IsFaultOf ReadStore e) }
     ensures log_source { Blames ReadLog L.failures log.old log.new result }
     ensures store_source { StoreFails result (R.failures store.old) (R.failures store.new) }
@@ -160,6 +177,9 @@ pub fn read_lsns_first<L: Reread, R: Reread>(
 pub fn check_log<L: Reread>(alloc: Global, log: &mut L, room: &mut [u8]) -> Result<(), Fault>
     requires { length room.old ≡ ROOM }
     ensures reads { OnOk result (ForSome (L.text log.old) IsLog) }
+    ensures same { OnOk result (Keeps (L.text log.old) (L.text log.new)) }
+    ensures read { IfErr result
+        (OnceLogRead (IsReadThrough (L.text log.old) (L.read_to log.new))) }
     ensures fault { IfErr result (LogCause (L.text log.old)) }
     ensures named { IfErr result IsOfLog }
     ensures cause { Blames ReadLog L.failures log.old log.new result }

@@ -4,9 +4,9 @@ mod calls;
 mod in_place;
 mod large;
 
-use aries::{Options, recover, recover_copying, recover_large_copying};
+use aries::{Options, read_store_whole, recover, recover_copying};
 use checks::{check, check_all};
-use device::{Pace, SlowSink, SlowSource};
+use device::{MemorySource, Pace, SlowSink, SlowSource};
 use page::{Fault, Page};
 use redo::OpenGate;
 use std::alloc::Global;
@@ -97,13 +97,13 @@ impl Failure {
 enum Way {
     /// It holds the log and the store in memory.
     Memory,
-    /// It reads the log in pieces.
-    Copying,
     /// It reads both in pieces.
-    LargeCopying,
+    Copying,
+    /// It reads the store into memory first, and then both in pieces.
+    CopyingHeld,
 }
 
-const WAYS: [Way; 3] = [Way::Memory, Way::Copying, Way::LargeCopying];
+const WAYS: [Way; 3] = [Way::Memory, Way::Copying, Way::CopyingHeld];
 
 /// A row, the bytes of the store that it begins with, and of the store that comes of it.
 #[derive(Drop)]
@@ -156,7 +156,10 @@ fn recovered<R: Threads + Sync>(
             rt, alloc, log, store, out_log, out_store, &OPTIONS, &OpenGate,
         ),
         Way::Copying => recover_copying(alloc, log, store, out_log, out_store, &OPTIONS),
-        Way::LargeCopying => recover_large_copying(alloc, log, store, out_log, out_store, &OPTIONS),
+        Way::CopyingHeld => read_store_whole(alloc, log, store).and_then(|bytes| {
+            let store = &mut MemorySource::new(&bytes);
+            recover_copying(alloc, log, store, out_log, out_store, &OPTIONS)
+        }),
     };
     answer.map(|_| ())
 }

@@ -1,125 +1,152 @@
-use Rattle.std.proofs.Common.{◌≤◌, ◌++◌, ◌∙◌, [], None, Some, length, take, refl, ap, inl, inr, subst, arith}
+use Rattle.std.proofs.Common.{◌≤◌, ◌++◌, ◌∙◌, Some, length, take, refl, ap, inl, inr, subst, arith}
 use Rattle.std.proofs.lemmas.Result.{err_from_is_err_and}
-use Rattle.page.specs.File.{store_text}
-use Rattle.page.specs.declared.fault.Fault.TheVariants.{ReadLog}
+use Rattle.page.specs.declared.fault.Fault.TheVariants.{ReadLog, ReadStore, WriteLog}
 use Rattle.passes.proofs.Reached.{still_told}
+use Rattle.wal.specs.Reads.{Reads}
+use Rattle.log_laws.specs.Tail.{with_tail}
+use Rattle.recovery.specs.ByPieces.{store_made}
 use Rattle.recovery.specs.Recovery.{Recovered}
-use Rattle.recovery.proofs.Decoded.{both_read}
-use Rattle.recovery.proofs.Delivered.{told_lawful, cut_lawful, completed}
 use Rattle.recovery.proofs.ByPieces.{of_log, by_device, ok_is_no_fault}
 use Rattle.recovery.proofs.Copies.{copy_is, makes_copy, copied_resource, copied_cause, copied_cut, copied_out, nothing_copied, failed_since}
+use Rattle.recovery.proofs.Delivered.{cut_lawful, completed}
+use Rattle.recovery.proofs.StoreAgain.{decoded_lsns, both_give, store_since, store_none, again_at}
 use Rattle.recovery.proofs.copying.recover_copying.Goals as goal
 
 pub returns-in_err-made-clause-lawful : goal.returns-in_err-made-clause-lawful
-returns-in_err-made-clause-lawful g c = λ base log_text store_bytes is tells_store range bytes.
+returns-in_err-made-clause-lawful g c = λ base log_text store_bytes is tells range bytes.
     let exit = err_from_is_err_and c.from_residual-in_err-made.result c.from_residual-in_err-made.ensures.1 in
-    let (text, read, decodes) = both_read {log_left = Some log_text} {log = log_text} c.in_ok-decoded.decoded refl c.in_ok-decoded.was c.read_store_first.ensures.read in
+    let decodes = decoded_lsns (g.SR.Reread.text c.args.store.now) c.in_ok-decoded.decoded store_bytes tells c.in_ok-decoded.ensures.read in
     let still = ap g.LR.Reread.text c.in_ok-decoded.ensures.log_unread ∙ is in
-    rw (exit.1, exit.2)
-    (of_log c.in_err-made.field-0.0 (c.in_err-made.ensures.lawful base log_text text (told_lawful log_text text log_text store_bytes read refl tells_store bytes) still decodes))
+    rw (exit.1, exit.2) (of_log c.in_err-made.field-0.0 (c.in_err-made.ensures.lawful base log_text store_bytes bytes still decodes))
 
 pub returns-in_err-made-clause-interrupted : goal.returns-in_err-made-clause-interrupted
-returns-in_err-made-clause-interrupted g c = λ base log_text store_bytes is tells_store range bytes.
+returns-in_err-made-clause-interrupted g c = λ base log_text store_bytes is tells range bytes.
     let exit = err_from_is_err_and c.from_residual-in_err-made.result c.from_residual-in_err-made.ensures.1 in
-    let (text, read, decodes) = both_read {log_left = Some log_text} {log = log_text} c.in_ok-decoded.decoded refl c.in_ok-decoded.was c.read_store_first.ensures.read in
+    let decodes = decoded_lsns (g.SR.Reread.text c.args.store.now) c.in_ok-decoded.decoded store_bytes tells c.in_ok-decoded.ensures.read in
     let still = ap g.LR.Reread.text c.in_ok-decoded.ensures.log_unread ∙ is in
-    rw (exit.1, exit.2)
-    (of_log c.in_err-made.field-0.0 (c.in_err-made.ensures.lawful base log_text text (told_lawful log_text text log_text store_bytes read refl tells_store (cut_lawful bytes)) still decodes))
+    rw (exit.1, exit.2) (of_log c.in_err-made.field-0.0 (c.in_err-made.ensures.lawful base log_text store_bytes (cut_lawful bytes) still decodes))
 
 pub returns-in_err-made-clause-cause : goal.returns-in_err-made-clause-cause
 returns-in_err-made-clause-cause g c =
     let exit = err_from_is_err_and c.from_residual-in_err-made.result c.from_residual-in_err-made.ensures.1 in
     rw (exit.1, exit.2)
-    (λ log_text is.
-    let (text, read, decodes) = both_read {log_left = Some log_text} {log = log_text} c.in_ok-decoded.decoded refl c.in_ok-decoded.was c.read_store_first.ensures.read in
+    (λ log_text store_bytes is tells.
+    let decodes = decoded_lsns (g.SR.Reread.text c.args.store.now) c.in_ok-decoded.decoded store_bytes tells c.in_ok-decoded.ensures.read in
     let still = ap g.LR.Reread.text c.in_ok-decoded.ensures.log_unread ∙ is in
-    by_device (g.SR.Source.left c.args.store.now) c.args.options.now log_text text c.in_err-made.field-0.0 read
-    (c.in_err-made.ensures.fault log_text text c.args.options.now still decodes c.in_ok-check_options.ensures.ok))
+    by_device (Some store_bytes) c.args.options.now log_text store_bytes c.in_err-made.field-0.0 (both_give log_text store_bytes)
+    (c.in_err-made.ensures.fault log_text store_bytes c.args.options.now still decodes c.in_ok-check_options.ensures.ok))
 
 pub returns-in_err-made-clause-out : goal.returns-in_err-made-clause-out
 returns-in_err-made-clause-out g c =
     let exit = err_from_is_err_and c.from_residual-in_err-made.result c.from_residual-in_err-made.ensures.1 in
-    rw (exit.1, exit.2)
-    (λ log_text is.
-    let (text, read, decodes) = both_read {log_left = Some log_text} {log = log_text} c.in_ok-decoded.decoded refl c.in_ok-decoded.was c.read_store_first.ensures.read in
-    let still = ap g.LR.Reread.text c.in_ok-decoded.ensures.log_unread ∙ is in
-    nothing_copied g.LW.Sink c.args.out_log.now g.SW.Sink c.args.out_store.now _ _ c.in_err-made.field-0.0 (c.in_err-made.ensures.named text decodes))
+    let (text, gave, decodes) = c.in_ok-decoded.ensures.read in
+    rw (exit.1, exit.2) (λ log_text store_bytes is tells. nothing_copied g.LW.Sink c.args.out_log.now g.SW.Sink c.args.out_store.now _ _ c.in_err-made.field-0.0 (c.in_err-made.ensures.named text decodes))
+
+pub write_copied-requires-clause-few : goal.write_copied-requires-clause-few
+write_copied-requires-clause-few g c =
+    let (text, gave, decodes) = c.in_ok-decoded.ensures.read in
+    c.in_ok-made.ensures.few text decodes
 
 pub returns-in_err-write_copied-clause-lawful : goal.returns-in_err-write_copied-clause-lawful
-returns-in_err-write_copied-clause-lawful g c = λ base log_text store_bytes is tells_store range bytes.
+returns-in_err-write_copied-clause-lawful g c =
     let exit = err_from_is_err_and c.from_residual-in_err-write_copied.result c.from_residual-in_err-write_copied.ensures.1 in
+    rw (exit.1, exit.2)
+    (λ base log_text store_bytes is tells range bytes.
+    let decodes = decoded_lsns (g.SR.Reread.text c.args.store.now) c.in_ok-decoded.decoded store_bytes tells c.in_ok-decoded.ensures.read in
     let still = ap g.LR.Reread.text c.in_ok-decoded.ensures.log_unread ∙ is in
+    let later = still_told (g.LR.Reread.text c.read_store_first.new.log) (g.LR.Reread.text c.make.new.log) log_text c.in_ok-made.ensures.same still in
+    let again = still_told (g.SR.Reread.text c.args.store.now) (g.SR.Reread.text c.read_store_first.new.store) store_bytes c.in_ok-decoded.ensures.kept tells in
     let x = c.in_ok-made.made in
     let measured = c.in_ok-made.ensures.measured log_text still in
-    let later = still_told (g.LR.Reread.text c.read_store_first.new.log) (g.LR.Reread.text c.make_by_pieces.new.log) log_text c.in_ok-made.ensures.same still in
     let within : x.log.kept ≤ length log_text = omega (arith, measured.kept_is) in
-    let leaves = c.in_err-write_copied.ensures.fault log_text later within in
-    rw (exit.1, exit.2) (copied_resource g.LW.Sink c.args.out_log.now c.write_copied.new.to g.SW.Sink c.args.out_store.now c.write_copied.new.out (take x.log.kept log_text ++ x.log.frames.items) (store_text x.store) c.in_err-write_copied.field-0.0 leaves)
+    let makes = c.in_ok-made.ensures.answer log_text store_bytes still decodes in
+    let (after, shown, recovers) = makes.recovers in
+    let leaves = c.in_err-write_copied.ensures.fault log_text later within makes.before after (again_at _ store_bytes makes.before again makes.spells) makes.spells.fits shown in
+    copied_resource g.LW.Sink c.args.out_log.now c.write_copied.new.to g.SW.Sink c.args.out_store.now c.write_copied.new.out (take x.log.kept log_text ++ x.log.frames.items) (store_made x after) c.in_err-write_copied.field-0.0 leaves)
 
 pub returns-in_err-write_copied-clause-interrupted : goal.returns-in_err-write_copied-clause-interrupted
-returns-in_err-write_copied-clause-interrupted g c = λ base log_text store_bytes is tells_store range bytes.
+returns-in_err-write_copied-clause-interrupted g c =
     let exit = err_from_is_err_and c.from_residual-in_err-write_copied.result c.from_residual-in_err-write_copied.ensures.1 in
+    rw (exit.1, exit.2)
+    (λ base log_text store_bytes is tells range bytes.
+    let decodes = decoded_lsns (g.SR.Reread.text c.args.store.now) c.in_ok-decoded.decoded store_bytes tells c.in_ok-decoded.ensures.read in
     let still = ap g.LR.Reread.text c.in_ok-decoded.ensures.log_unread ∙ is in
+    let later = still_told (g.LR.Reread.text c.read_store_first.new.log) (g.LR.Reread.text c.make.new.log) log_text c.in_ok-made.ensures.same still in
+    let again = still_told (g.SR.Reread.text c.args.store.now) (g.SR.Reread.text c.read_store_first.new.store) store_bytes c.in_ok-decoded.ensures.kept tells in
     let x = c.in_ok-made.made in
     let measured = c.in_ok-made.ensures.measured log_text still in
-    let later = still_told (g.LR.Reread.text c.read_store_first.new.log) (g.LR.Reread.text c.make_by_pieces.new.log) log_text c.in_ok-made.ensures.same still in
     let within : x.log.kept ≤ length log_text = omega (arith, measured.kept_is) in
-    let leaves = c.in_err-write_copied.ensures.fault log_text later within in
-    rw (exit.1, exit.2) (copied_resource g.LW.Sink c.args.out_log.now c.write_copied.new.to g.SW.Sink c.args.out_store.now c.write_copied.new.out (take x.log.kept log_text ++ x.log.frames.items) (store_text x.store) c.in_err-write_copied.field-0.0 leaves)
+    let makes = c.in_ok-made.ensures.answer log_text store_bytes still decodes in
+    let (after, shown, recovers) = makes.recovers in
+    let leaves = c.in_err-write_copied.ensures.fault log_text later within makes.before after (again_at _ store_bytes makes.before again makes.spells) makes.spells.fits shown in
+    copied_resource g.LW.Sink c.args.out_log.now c.write_copied.new.to g.SW.Sink c.args.out_store.now c.write_copied.new.out (take x.log.kept log_text ++ x.log.frames.items) (store_made x after) c.in_err-write_copied.field-0.0 leaves)
 
 pub returns-in_err-write_copied-clause-cause : goal.returns-in_err-write_copied-clause-cause
 returns-in_err-write_copied-clause-cause g c =
     let exit = err_from_is_err_and c.from_residual-in_err-write_copied.result c.from_residual-in_err-write_copied.ensures.1 in
     rw (exit.1, exit.2)
-    (λ log_text is.
+    (λ log_text store_bytes is tells.
+    let decodes = decoded_lsns (g.SR.Reread.text c.args.store.now) c.in_ok-decoded.decoded store_bytes tells c.in_ok-decoded.ensures.read in
     let still = ap g.LR.Reread.text c.in_ok-decoded.ensures.log_unread ∙ is in
+    let later = still_told (g.LR.Reread.text c.read_store_first.new.log) (g.LR.Reread.text c.make.new.log) log_text c.in_ok-made.ensures.same still in
+    let again = still_told (g.SR.Reread.text c.args.store.now) (g.SR.Reread.text c.read_store_first.new.store) store_bytes c.in_ok-decoded.ensures.kept tells in
     let x = c.in_ok-made.made in
     let measured = c.in_ok-made.ensures.measured log_text still in
-    let later = still_told (g.LR.Reread.text c.read_store_first.new.log) (g.LR.Reread.text c.make_by_pieces.new.log) log_text c.in_ok-made.ensures.same still in
     let within : x.log.kept ≤ length log_text = omega (arith, measured.kept_is) in
-    let leaves = c.in_err-write_copied.ensures.fault log_text later within in
-    copied_cause g.LW.Sink c.args.out_log.now c.write_copied.new.to g.SW.Sink c.args.out_store.now c.write_copied.new.out (take x.log.kept log_text ++ x.log.frames.items) (store_text x.store) (Some log_text) (g.SR.Source.left c.args.store.now) c.args.options.now c.in_err-write_copied.field-0.0 leaves)
+    let makes = c.in_ok-made.ensures.answer log_text store_bytes still decodes in
+    let (after, shown, recovers) = makes.recovers in
+    let leaves = c.in_err-write_copied.ensures.fault log_text later within makes.before after (again_at _ store_bytes makes.before again makes.spells) makes.spells.fits shown in
+    copied_cause g.LW.Sink c.args.out_log.now c.write_copied.new.to g.SW.Sink c.args.out_store.now c.write_copied.new.out (take x.log.kept log_text ++ x.log.frames.items) (store_made x after) (Some log_text) (Some store_bytes) c.args.options.now c.in_err-write_copied.field-0.0 leaves)
 
 pub returns-in_err-write_copied-clause-out : goal.returns-in_err-write_copied-clause-out
 returns-in_err-write_copied-clause-out g c =
     let exit = err_from_is_err_and c.from_residual-in_err-write_copied.result c.from_residual-in_err-write_copied.ensures.1 in
     rw (exit.1, exit.2)
-    (λ log_text is.
+    (λ log_text store_bytes is tells.
+    let decodes = decoded_lsns (g.SR.Reread.text c.args.store.now) c.in_ok-decoded.decoded store_bytes tells c.in_ok-decoded.ensures.read in
     let still = ap g.LR.Reread.text c.in_ok-decoded.ensures.log_unread ∙ is in
+    let later = still_told (g.LR.Reread.text c.read_store_first.new.log) (g.LR.Reread.text c.make.new.log) log_text c.in_ok-made.ensures.same still in
+    let again = still_told (g.SR.Reread.text c.args.store.now) (g.SR.Reread.text c.read_store_first.new.store) store_bytes c.in_ok-decoded.ensures.kept tells in
     let x = c.in_ok-made.made in
     let measured = c.in_ok-made.ensures.measured log_text still in
-    let later = still_told (g.LR.Reread.text c.read_store_first.new.log) (g.LR.Reread.text c.make_by_pieces.new.log) log_text c.in_ok-made.ensures.same still in
     let within : x.log.kept ≤ length log_text = omega (arith, measured.kept_is) in
-    let (text, read, decodes) = both_read {log_left = Some log_text} {log = log_text} c.in_ok-decoded.decoded refl c.in_ok-decoded.was c.read_store_first.ensures.read in
-    let leaves = c.in_err-write_copied.ensures.fault log_text later within in
-    let made = makes_copy (g.SR.Source.left c.args.store.now) log_text text x.log (store_text x.store) read measured (c.in_ok-made.ensures.answer log_text text still decodes) in
+    let makes = c.in_ok-made.ensures.answer log_text store_bytes still decodes in
+    let (after, shown, recovers) = makes.recovers in
+    let made = makes_copy (Some store_bytes) log_text store_bytes x.log (store_made x after) (both_give log_text store_bytes) measured recovers in
+    let leaves = c.in_err-write_copied.ensures.fault log_text later within makes.before after (again_at _ store_bytes makes.before again makes.spells) makes.spells.fits shown in
     copied_out g.LW.Sink c.args.out_log.now c.write_copied.new.to g.SW.Sink c.args.out_store.now c.write_copied.new.out made c.in_err-write_copied.field-0.0 leaves)
 
 pub returns-in_err-write_copied-clause-resumable : goal.returns-in_err-write_copied-clause-resumable
-returns-in_err-write_copied-clause-resumable g c = λ base log_text store_bytes is tells_store range bytes.
+returns-in_err-write_copied-clause-resumable g c =
     let exit = err_from_is_err_and c.from_residual-in_err-write_copied.result c.from_residual-in_err-write_copied.ensures.1 in
+    rw (exit.1, exit.2)
+    (λ base log_text store_bytes is tells range bytes.
+    let decodes = decoded_lsns (g.SR.Reread.text c.args.store.now) c.in_ok-decoded.decoded store_bytes tells c.in_ok-decoded.ensures.read in
     let still = ap g.LR.Reread.text c.in_ok-decoded.ensures.log_unread ∙ is in
+    let later = still_told (g.LR.Reread.text c.read_store_first.new.log) (g.LR.Reread.text c.make.new.log) log_text c.in_ok-made.ensures.same still in
+    let again = still_told (g.SR.Reread.text c.args.store.now) (g.SR.Reread.text c.read_store_first.new.store) store_bytes c.in_ok-decoded.ensures.kept tells in
     let x = c.in_ok-made.made in
     let measured = c.in_ok-made.ensures.measured log_text still in
-    let later = still_told (g.LR.Reread.text c.read_store_first.new.log) (g.LR.Reread.text c.make_by_pieces.new.log) log_text c.in_ok-made.ensures.same still in
     let within : x.log.kept ≤ length log_text = omega (arith, measured.kept_is) in
-    let (text, read, decodes) = both_read {log_left = Some log_text} {log = log_text} c.in_ok-decoded.decoded refl c.in_ok-decoded.was c.read_store_first.ensures.read in
-    let leaves = c.in_err-write_copied.ensures.fault log_text later within in
-    let recovered =
-    subst (λ l. Recovered base bytes.decoded.read bytes.decoded.before l (store_text x.store) x.log.report) (copy_is log_text x.log measured)
-    (c.in_ok-made.ensures.lawful base log_text text (told_lawful log_text text log_text store_bytes read refl tells_store bytes) still decodes) in
-    rw (exit.1, exit.2)
-    (copied_cut g.LW.Sink c.args.out_log.now c.write_copied.new.to g.SW.Sink c.args.out_store.now c.write_copied.new.out (take x.log.kept log_text ++ x.log.frames.items) (store_text x.store) bytes recovered.reads c.in_err-write_copied.field-0.0 leaves)
+    let makes = c.in_ok-made.ensures.answer log_text store_bytes still decodes in
+    let (after, shown, recovers) = makes.recovers in
+    let leaves = c.in_err-write_copied.ensures.fault log_text later within makes.before after (again_at _ store_bytes makes.before again makes.spells) makes.spells.fits shown in
+    let restores = c.in_ok-made.ensures.lawful base log_text store_bytes bytes still decodes in
+    let reads = subst (λ l. Reads l (with_tail bytes.decoded.read) 0) (copy_is log_text x.log measured) restores.2.reads in
+    copied_cut g.LW.Sink c.args.out_log.now c.write_copied.new.to g.SW.Sink c.args.out_store.now c.write_copied.new.out (take x.log.kept log_text ++ x.log.frames.items) (store_made x after) bytes reads c.in_err-write_copied.field-0.0 leaves)
 
 pub returns-in_err-write_copied-clause-log_out_first : goal.returns-in_err-write_copied-clause-log_out_first
-returns-in_err-write_copied-clause-log_out_first g c = λ log_text is.
+returns-in_err-write_copied-clause-log_out_first g c = λ log_text store_bytes is tells.
+    let decodes = decoded_lsns (g.SR.Reread.text c.args.store.now) c.in_ok-decoded.decoded store_bytes tells c.in_ok-decoded.ensures.read in
     let still = ap g.LR.Reread.text c.in_ok-decoded.ensures.log_unread ∙ is in
+    let later = still_told (g.LR.Reread.text c.read_store_first.new.log) (g.LR.Reread.text c.make.new.log) log_text c.in_ok-made.ensures.same still in
+    let again = still_told (g.SR.Reread.text c.args.store.now) (g.SR.Reread.text c.read_store_first.new.store) store_bytes c.in_ok-decoded.ensures.kept tells in
     let x = c.in_ok-made.made in
     let measured = c.in_ok-made.ensures.measured log_text still in
-    let later = still_told (g.LR.Reread.text c.read_store_first.new.log) (g.LR.Reread.text c.make_by_pieces.new.log) log_text c.in_ok-made.ensures.same still in
     let within : x.log.kept ≤ length log_text = omega (arith, measured.kept_is) in
-    let (text, read, decodes) = both_read {log_left = Some log_text} {log = log_text} c.in_ok-decoded.decoded refl c.in_ok-decoded.was c.read_store_first.ensures.read in
-    let made = makes_copy (g.SR.Source.left c.args.store.now) log_text text x.log (store_text x.store) read measured (c.in_ok-made.ensures.answer log_text text still decodes) in
+    let makes = c.in_ok-made.ensures.answer log_text store_bytes still decodes in
+    let (after, shown, recovers) = makes.recovers in
+    let made = makes_copy (Some store_bytes) log_text store_bytes x.log (store_made x after) (both_give log_text store_bytes) measured recovers in
     elim (c.write_copied.ensures.order) [
       | inl same ↦ inl same
       | inr out ↦ inr (made, out log_text later within)
@@ -128,52 +155,80 @@ returns-in_err-write_copied-clause-log_out_first g c = λ log_text is.
 pub returns-in_err-write_copied-clause-log_source : goal.returns-in_err-write_copied-clause-log_source
 returns-in_err-write_copied-clause-log_source g c =
     let exit = err_from_is_err_and c.from_residual-in_err-write_copied.result c.from_residual-in_err-write_copied.ensures.1 in
-    let (text, read, decodes) = both_read {log_left = None} {log = []} c.in_ok-decoded.decoded tt c.in_ok-decoded.was c.read_store_first.ensures.read in
+    let (text, gave, decodes) = c.in_ok-decoded.ensures.read in
     let first = c.in_ok-decoded.ensures.log_source.innocent (ok_is_no_fault c.in_ok-decoded.decoded ReadLog) in
     let then = (c.in_ok-made.ensures.cause text decodes).innocent (ok_is_no_fault c.in_ok-made.made ReadLog) in
     rw (exit.1, exit.2) (failed_since ReadLog c.in_err-write_copied.field-0.0 _ _ _ (then ∙ first) c.in_err-write_copied.ensures.log_source)
 
+pub returns-in_err-write_copied-clause-store_source : goal.returns-in_err-write_copied-clause-store_source
+returns-in_err-write_copied-clause-store_source g c =
+    let exit = err_from_is_err_and c.from_residual-in_err-write_copied.result c.from_residual-in_err-write_copied.ensures.1 in
+    let first = c.in_ok-decoded.ensures.store_source.innocent (ok_is_no_fault c.in_ok-decoded.decoded ReadStore) (ok_is_no_fault c.in_ok-decoded.decoded ReadLog) in
+    rw (exit.1, exit.2) (store_since c.in_err-write_copied.field-0.0 _ _ _ first c.in_err-write_copied.ensures.store_source)
+
+pub returns-in_err-write_copied-clause-log_sink : goal.returns-in_err-write_copied-clause-log_sink
+returns-in_err-write_copied-clause-log_sink g c =
+    let exit = err_from_is_err_and c.from_residual-in_err-write_copied.result c.from_residual-in_err-write_copied.ensures.1 in
+    rw (exit.1, exit.2) (failed_since WriteLog c.in_err-write_copied.field-0.0 _ _ _ refl c.in_err-write_copied.ensures.log_sink)
+
+pub returns-clause-store_source : goal.returns-clause-store_source
+returns-clause-store_source g c =
+    let first = c.in_ok-decoded.ensures.store_source.innocent (ok_is_no_fault c.in_ok-decoded.decoded ReadStore) (ok_is_no_fault c.in_ok-decoded.decoded ReadLog) in
+    store_none _ _ _ (c.in_ok-write_copied.ensures.store_source.innocent (ok_is_no_fault tt ReadStore) ∙ first)
+
 pub returns-clause-lawful : goal.returns-clause-lawful
-returns-clause-lawful g c = λ base log_text store_bytes is tells_store range bytes.
+returns-clause-lawful g c = λ base log_text store_bytes is tells range bytes.
+    let decodes = decoded_lsns (g.SR.Reread.text c.args.store.now) c.in_ok-decoded.decoded store_bytes tells c.in_ok-decoded.ensures.read in
     let still = ap g.LR.Reread.text c.in_ok-decoded.ensures.log_unread ∙ is in
+    let later = still_told (g.LR.Reread.text c.read_store_first.new.log) (g.LR.Reread.text c.make.new.log) log_text c.in_ok-made.ensures.same still in
+    let again = still_told (g.SR.Reread.text c.args.store.now) (g.SR.Reread.text c.read_store_first.new.store) store_bytes c.in_ok-decoded.ensures.kept tells in
     let x = c.in_ok-made.made in
     let measured = c.in_ok-made.ensures.measured log_text still in
-    let later = still_told (g.LR.Reread.text c.read_store_first.new.log) (g.LR.Reread.text c.make_by_pieces.new.log) log_text c.in_ok-made.ensures.same still in
     let within : x.log.kept ≤ length log_text = omega (arith, measured.kept_is) in
-    let (text, read, decodes) = both_read {log_left = Some log_text} {log = log_text} c.in_ok-decoded.decoded refl c.in_ok-decoded.was c.read_store_first.ensures.read in
-    let recovered =
-    subst (λ l. Recovered base bytes.decoded.read bytes.decoded.before l (store_text x.store) x.log.report) (copy_is log_text x.log measured)
-    (c.in_ok-made.ensures.lawful base log_text text (told_lawful log_text text log_text store_bytes read refl tells_store bytes) still decodes) in
+    let (after, shown, recovered) = c.in_ok-made.ensures.lawful base log_text store_bytes bytes still decodes in
+    let before = bytes.decoded.before in
     record {
       new_log = take x.log.kept log_text ++ x.log.frames.items;
-      new_store = store_text x.store;
-      recovered = recovered;
+      new_store = store_made x after;
+      recovered =
+          subst (λ l. Recovered base bytes.decoded.read before l (store_made x after) x.log.report) (copy_is log_text x.log measured) recovered;
       log_out = (c.in_ok-write_copied.ensures.log_out log_text later within).out;
-      store_out = c.in_ok-write_copied.ensures.store_out.out;
+      store_out = (c.in_ok-write_copied.ensures.store_out before after (again_at _ store_bytes before again bytes.decoded.spells) bytes.decoded.spells.fits shown).out;
     }
 
 pub returns-clause-interrupted : goal.returns-clause-interrupted
-returns-clause-interrupted g c = λ base log_text store_bytes is tells_store range bytes.
-    completed bytes _ _ _ _ _ _ _ (returns-clause-lawful g c base log_text store_bytes is tells_store range (cut_lawful bytes))
+returns-clause-interrupted g c = λ base log_text store_bytes is tells range bytes.
+    completed bytes _ _ _ _ _ _ _ (returns-clause-lawful g c base log_text store_bytes is tells range (cut_lawful bytes))
 
 pub returns-clause-answer : goal.returns-clause-answer
-returns-clause-answer g c = λ log_text is.
+returns-clause-answer g c = λ log_text store_bytes is tells.
+    let decodes = decoded_lsns (g.SR.Reread.text c.args.store.now) c.in_ok-decoded.decoded store_bytes tells c.in_ok-decoded.ensures.read in
     let still = ap g.LR.Reread.text c.in_ok-decoded.ensures.log_unread ∙ is in
+    let later = still_told (g.LR.Reread.text c.read_store_first.new.log) (g.LR.Reread.text c.make.new.log) log_text c.in_ok-made.ensures.same still in
+    let again = still_told (g.SR.Reread.text c.args.store.now) (g.SR.Reread.text c.read_store_first.new.store) store_bytes c.in_ok-decoded.ensures.kept tells in
     let x = c.in_ok-made.made in
     let measured = c.in_ok-made.ensures.measured log_text still in
-    let later = still_told (g.LR.Reread.text c.read_store_first.new.log) (g.LR.Reread.text c.make_by_pieces.new.log) log_text c.in_ok-made.ensures.same still in
     let within : x.log.kept ≤ length log_text = omega (arith, measured.kept_is) in
-    let (text, read, decodes) = both_read {log_left = Some log_text} {log = log_text} c.in_ok-decoded.decoded refl c.in_ok-decoded.was c.read_store_first.ensures.read in
-    let made = makes_copy (g.SR.Source.left c.args.store.now) log_text text x.log (store_text x.store) read measured (c.in_ok-made.ensures.answer log_text text still decodes) in
-    record { made = made; report_is = refl; log_out = (c.in_ok-write_copied.ensures.log_out log_text later within).out; store_out = c.in_ok-write_copied.ensures.store_out.out }
+    let makes = c.in_ok-made.ensures.answer log_text store_bytes still decodes in
+    let (after, shown, recovers) = makes.recovers in
+    let made = makes_copy (Some store_bytes) log_text store_bytes x.log (store_made x after) (both_give log_text store_bytes) measured recovers in
+    record {
+      made = made;
+      report_is = refl;
+      log_out = (c.in_ok-write_copied.ensures.log_out log_text later within).out;
+      store_out = (c.in_ok-write_copied.ensures.store_out makes.before after (again_at _ store_bytes makes.before again makes.spells) makes.spells.fits shown).out;
+    }
 
 pub returns-clause-log_out_first : goal.returns-clause-log_out_first
-returns-clause-log_out_first g c = λ log_text is.
+returns-clause-log_out_first g c = λ log_text store_bytes is tells.
+    let decodes = decoded_lsns (g.SR.Reread.text c.args.store.now) c.in_ok-decoded.decoded store_bytes tells c.in_ok-decoded.ensures.read in
     let still = ap g.LR.Reread.text c.in_ok-decoded.ensures.log_unread ∙ is in
+    let later = still_told (g.LR.Reread.text c.read_store_first.new.log) (g.LR.Reread.text c.make.new.log) log_text c.in_ok-made.ensures.same still in
+    let again = still_told (g.SR.Reread.text c.args.store.now) (g.SR.Reread.text c.read_store_first.new.store) store_bytes c.in_ok-decoded.ensures.kept tells in
     let x = c.in_ok-made.made in
     let measured = c.in_ok-made.ensures.measured log_text still in
-    let later = still_told (g.LR.Reread.text c.read_store_first.new.log) (g.LR.Reread.text c.make_by_pieces.new.log) log_text c.in_ok-made.ensures.same still in
     let within : x.log.kept ≤ length log_text = omega (arith, measured.kept_is) in
-    let (text, read, decodes) = both_read {log_left = Some log_text} {log = log_text} c.in_ok-decoded.decoded refl c.in_ok-decoded.was c.read_store_first.ensures.read in
-    let made = makes_copy (g.SR.Source.left c.args.store.now) log_text text x.log (store_text x.store) read measured (c.in_ok-made.ensures.answer log_text text still decodes) in
+    let makes = c.in_ok-made.ensures.answer log_text store_bytes still decodes in
+    let (after, shown, recovers) = makes.recovers in
+    let made = makes_copy (Some store_bytes) log_text store_bytes x.log (store_made x after) (both_give log_text store_bytes) measured recovers in
     inr (made, c.in_ok-write_copied.ensures.log_out log_text later within)

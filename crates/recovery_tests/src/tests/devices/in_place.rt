@@ -1,7 +1,7 @@
 //! Recovery in place over devices that pass a few bytes a call, and fail.
 
 use super::{OPTIONS, Worked, worked_one_commit, worked_two_losers};
-use aries::{TailFile, recover_by_pieces};
+use aries::{TailFile, recover_in_place};
 use checks::{check, check_all, check_at};
 use device::{MemorySource, Pace, SlowSink};
 use page::Fault;
@@ -77,7 +77,7 @@ fn left_of(alloc: Global, worked: &Worked, bytes: &[u8], sinks: Sinks) -> Result
         log: SlowSink::holding(alloc, bytes, room, sinks.log)?,
         store: SlowSink::new(alloc, worked.after.len(), sinks.store)?,
     };
-    let answer = recover_by_pieces(
+    let answer = recover_in_place(
         alloc,
         &mut MemorySource::new(bytes),
         &mut MemorySource::new(&worked.before),

@@ -11,7 +11,7 @@ use aries::{Options, Report, TailFile};
 use checks::{check, check_all};
 use device::{MemorySource, Pace, Reread, SlowSink, SlowSource};
 use page::{Fault, Page, encode_page};
-use recovery::recover_large_by_pieces;
+use recovery::recover_in_place;
 use std::alloc::Global;
 use std::test::Fail;
 use wal::Record;
@@ -81,7 +81,7 @@ fn recovered<L: Reread, S: Reread>(
     left: &mut Left,
     options: &Options,
 ) -> Result<Report, Fault> {
-    recover_large_by_pieces(
+    recover_in_place(
         alloc,
         log,
         store,

@@ -1,5 +1,5 @@
-use Rattle.recovery.proofs.Large.{leaves_rewriting}
-use Rattle.recovery.proofs.large_store.write_large.Goals as goal
+use Rattle.recovery.proofs.StoreAgain.{leaves_rewriting}
+use Rattle.recovery.proofs.in_place.write_in_place.Goals as goal
 
 pub returns-in-Ok-clause-fault : goal.returns-in-Ok-clause-fault
 returns-in-Ok-clause-fault g c =

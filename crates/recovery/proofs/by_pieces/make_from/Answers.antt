@@ -7,8 +7,8 @@ use Rattle.changes.specs.Pages.{ShowsChanges}
 use Rattle.recovery.specs.Recovery.{Recovers, Recovered}
 use Rattle.recovery.specs.ByPieces.{continued_log}
 use Rattle.recovery.proofs.ByPieces.{store_same}
-use Rattle.recovery.proofs.Large.{begun_shows}
-use Rattle.recovery.proofs.large_store.make_from.Goals as goal
+use Rattle.recovery.proofs.StoreAgain.{begun_shows}
+use Rattle.recovery.proofs.by_pieces.make_from.Goals as goal
 
 pub returns-in_err-changes-clause-lawful : goal.returns-in_err-changes-clause-lawful
 returns-in_err-changes-clause-lawful g c = λ base text store bytes is are.

@@ -1,4 +1,4 @@
--- A recovery of a log and a store that are both read in pieces.
+-- A store that is read in pieces, and once more while the new one is written.
 use Rattle.std.proofs.Common.{◌≡◌, ◌<◌, ◌-◌, ◌++◌, ◌⊎◌, ℕ, List, All, Option, Some, None, Result, Ok, Err, length, get_or, map, take, refl, sym, ap, subst, ◌∙◌, arith, inl, inr}
 use Rattle.std.proofs.lemmas.List.{length-map, length-replicate, get_or-map}
 use Rattle.std.specs.Prelude.{OnErr, IfErr}
@@ -25,8 +25,7 @@ use Rattle.recovery.specs.declared.store_changes.DecodedLsns.{DecodedLsns}
 use Rattle.recovery.specs.ByPieces.{IsOfLog, StoreFails}
 use Rattle.recovery.specs.StoreChanges.{AreDecodedLsns, DecodesLsns, IsBegun, IsRewriteFault, IsOfRewriting}
 use Rattle.recovery.specs.declared.tail_file.TailFile.{TailFile}
-use Rattle.recovery.specs.InPlace.{Prepares, LeavesInPlace, HoldsCut, ContinuesBy}
-use Rattle.recovery.specs.Large.{LeavesReread, LeavesLarge, IsLeftLarge}
+use Rattle.recovery.specs.InPlace.{Prepares, LeavesInPlace, HoldsCut, ContinuesBy, LeavesReread, LeavesChanged, IsLeftReread}
 use Rattle.recovery.proofs.InPlace.{stays_as, stays_cut, left_in}
 use Rattle.recovery.proofs.ByPieces.{untouched, ok_is_no_fault}
 
@@ -68,7 +67,7 @@ module _ {L S : Type 0} (log : Sink L) (a b : L) (store : Sink S) (c d : S) wher
   reread_as k l f g new_store e p q stays = stays_as log a b store c d k l f g new_store e p q stays
 
   pub leaves_rewriting : {U : Type 0} (answer : Result U Fault) (held : Option (List ℕ)) (file : TailFile) (master : ℕ) (changes : List PageChange) → ContinuesBy log a b file
-      → OnErr answer (IsBegun held master changes store c d) → IfErr answer (IsRewriteFault held changes) → IfErr answer (LeavesLarge log a b store c d held file master changes)
+      → OnErr answer (IsBegun held master changes store c d) → IfErr answer (IsRewriteFault held changes) → IfErr answer (LeavesChanged log a b store c d held file master changes)
   leaves_rewriting (Ok x) held file master changes done began fault = tt
   leaves_rewriting (Err e) held file master changes done began fault = λ before shown is fits shows.
       let new_store = store_text (record { master = master; pages = shown }) in
@@ -78,19 +77,19 @@ module _ {L S : Type 0} (log : Sink L) (a b : L) (store : Sink S) (c d : S) wher
         | inr sink ↦ subst (LeavesReread log a b store c d file.kept file.frames.now new_store) (sym sink) left
       ]
 
-  pub left_large : {log_left store_left : Option (List ℕ)} (made : Prepares log_left store_left) (e : Fault) → LeavesReread log a b store c d made.kept made.frames made.new_store e
-      → IsLeftLarge log a b store c d log_left store_left e
-  left_large made ReadStore h = inr (left_in log a b store c d made WriteStore h)
-  left_large made e h = left_in log a b store c d made e h
+  pub left_reread : {log_left store_left : Option (List ℕ)} (made : Prepares log_left store_left) (e : Fault) → LeavesReread log a b store c d made.kept made.frames made.new_store e
+      → IsLeftReread log a b store c d log_left store_left e
+  left_reread made ReadStore h = inr (left_in log a b store c d made WriteStore h)
+  left_reread made e h = left_in log a b store c d made e h
 
 -- THE LOG'S DEVICE holds what was read, or what an interrupted restart may have left
-pub cut_large : {base : BasePages} {log store : List ℕ} (bytes : AreLawful base log store) (kept : ℕ) (frames new_store : List ℕ) (report : ReportContent)
+pub cut_reread : {base : BasePages} {log store : List ℕ} (bytes : AreLawful base log store) (kept : ℕ) (frames new_store : List ℕ) (report : ReportContent)
     → Recovers log store (take kept log ++ frames) new_store report → kept ≡ length log - report.torn → Reads (take kept log ++ frames) (with_tail bytes.decoded.read) 0
     → {L S : Type 0} (out_log : Sink L) (a b : L) (out_store : Sink S) (c d : S) (e : Fault) → out_log.taken a ≡ Some log
     → LeavesReread out_log a b out_store c d kept frames new_store e → HoldsCut base bytes.decoded.read bytes.decoded.before log store (out_log.taken b)
-cut_large bytes kept frames new_store report recovers kept_is reads out_log a b out_store c d ReadStore holds stays =
+cut_reread bytes kept frames new_store report recovers kept_is reads out_log a b out_store c d ReadStore holds stays =
     stays_cut bytes kept frames new_store report recovers kept_is reads out_log a b out_store c d WriteStore holds stays
-cut_large bytes kept frames new_store report recovers kept_is reads out_log a b out_store c d e holds stays =
+cut_reread bytes kept frames new_store report recovers kept_is reads out_log a b out_store c d e holds stays =
     stays_cut bytes kept frames new_store report recovers kept_is reads out_log a b out_store c d e holds stays
 
 -- WHAT A FAULT IS
@@ -109,9 +108,9 @@ module _ {L S : Type 0} (log : Sink L) (a b : L) (store : Sink S) (c d : S) (kep
   cause_left log_left store_left options e h = absurd h
 
 -- a fault of the log leaves all as it was
-pub untouched_large : {L S : Type 0} (log : Sink L) (a : L) (store : Sink S) (b : S) (log_left store_left : Option (List ℕ)) (e : Fault) → IsOfLog e → IsLeftLarge log a a store b b log_left store_left e
-untouched_large log a store b log_left store_left ReadStore h = absurd h
-untouched_large log a store b log_left store_left e h = untouched log a store b log_left store_left e h
+pub untouched_reread : {L S : Type 0} (log : Sink L) (a : L) (store : Sink S) (b : S) (log_left store_left : Option (List ℕ)) (e : Fault) → IsOfLog e → IsLeftReread log a a store b b log_left store_left e
+untouched_reread log a store b log_left store_left ReadStore h = absurd h
+untouched_reread log a store b log_left store_left e h = untouched log a store b log_left store_left e h
 
 -- the log's device has no fault of writing
 pub not_read_log : (e : Fault) → (e ≡ WriteLog) ⊎ IsOfRewriting e → e ≡ ReadLog → ⊥

@@ -2,7 +2,7 @@ use Rattle.std.proofs.Common.{inl, inr}
 use Rattle.std.proofs.lemmas.Result.{err_from_is_err_and, IfOk-at_ok, IfOk-weaker, IfErr-weaker, MatchResult-at_ok}
 use Rattle.page.specs.Lsns.{SpellsLsns}
 use Rattle.wal.proofs.Causes.{no_fault_of_a_log}
-use Rattle.recovery.proofs.large_store.make_large.Goals as goal
+use Rattle.recovery.proofs.by_pieces.make.Goals as goal
 
 pub returns-in_err-check_log-in-Err-clause-lawful : goal.returns-in_err-check_log-in-Err-clause-lawful
 returns-in_err-check_log-in-Err-clause-lawful g c = λ base text store bytes is decodes.
