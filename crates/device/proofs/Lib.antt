@@ -1,3 +1,3 @@
 mod Empty
 mod Pieces
-mod Reach
+pub mod Reach

@@ -3,7 +3,7 @@ use Rattle.std.proofs.Common.{◌≡◌, ℕ, ◌+◌, ◌≤◌, List, ap, arit
 use Rattle.std.specs.declared.option.Option.{Option}
 use Rattle.std.specs.declared.option.Option.TheVariants.{None, Some}
 use Rattle.std.specs.Io.KnownBytes.{Keeps}
-use Rattle.device.specs.Reread.{ReachGrows, ReachJoins}
+use Rattle.device.specs.Reread.{EndsBy, IsReadThrough, ReachesTo, ReachGrows, ReachJoins}
 
 -- it never becomes less
 pub grows_on : (before now : Option (List ℕ)) (a b c : ℕ) → Keeps before now → ReachGrows before a b → ReachGrows now b c → ReachGrows before a c
@@ -24,3 +24,27 @@ pub joins_still : (before now : Option (List ℕ)) (a b c offset f : ℕ) → Ke
 joins_still None now a b c offset f kept first next = tt
 joins_still (Some held) None a b c offset f kept first next = absurd kept
 joins_still (Some held) (Some same) a b c offset f kept first next = λ starts. omega (arith, first starts, next)
+
+-- THE NEXT BYTES are read, of a device that holds what it held
+pub reach_on : (before now : Option (List ℕ)) (m n offset count : ℕ) → Keeps before now → ReachesTo before offset m → ReachJoins now m n offset count
+    → ReachesTo before (offset + count) n
+reach_on None now m n offset count kept far joins = tt
+reach_on (Some held) None m n offset count kept far joins = absurd kept
+reach_on (Some held) (Some same) m n offset count kept far joins = joins far
+
+-- and the last ones
+pub read_all : (before now : Option (List ℕ)) (m offset : ℕ) → Keeps before now → ReachesTo before offset m → EndsBy now offset → IsReadThrough before m
+read_all None now m offset kept far end = tt
+read_all (Some held) None m offset kept far end = absurd kept
+read_all (Some held) (Some same) m offset kept far end = omega (arith, far, end, ap (λ (bytes : List ℕ). length bytes) kept)
+
+-- all stay read
+pub read_still : (before now : Option (List ℕ)) (m n : ℕ) → Keeps before now → IsReadThrough before m → ReachGrows now m n → IsReadThrough before n
+read_still None now m n kept read grows = tt
+read_still (Some held) None m n kept read grows = absurd kept
+read_still (Some held) (Some same) m n kept read grows = omega (arith, read, grows)
+
+-- before anything is read again
+pub grows_none : (text : Option (List ℕ)) (m : ℕ) → ReachGrows text m m
+grows_none None m = tt
+grows_none (Some held) m = omega arith
