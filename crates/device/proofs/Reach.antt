@@ -48,3 +48,7 @@ read_still (Some held) (Some same) m n kept read grows = omega (arith, read, gro
 pub grows_none : (text : Option (List ℕ)) (m : ℕ) → ReachGrows text m m
 grows_none None m = tt
 grows_none (Some held) m = omega arith
+
+pub reach_none : (text : Option (List ℕ)) (m : ℕ) → ReachesTo text 0 m
+reach_none None m = tt
+reach_none (Some held) m = omega arith

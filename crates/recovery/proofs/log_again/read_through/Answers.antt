@@ -6,7 +6,7 @@ use Rattle.recovery.proofs.ByPieces.{ends_short, failed, memory_fails, none_fail
 use Rattle.recovery.proofs.log_again.read_through.Goals as goal
 
 pub loop-offset-init : goal.loop-offset-init
-loop-offset-init g c = record { room = c.requires; same = keeps_same (g.L.Reread.text c.args.log.now); failures = refl }
+loop-offset-init g c = record { some = c.requires.some; few = c.requires.few; reach = reach_none _ _; same = keeps_same (g.L.Reread.text c.args.log.now); failures = refl }
 
 pub returns-in_err-count-clause-same : goal.returns-in_err-count-clause-same
 returns-in_err-count-clause-same g c =
@@ -37,7 +37,9 @@ pub loop-offset-preserved : goal.loop-offset-preserved
 loop-offset-preserved g c =
     let inv = c.loop-offset.invariant in
     record {
-      room = c.read_from.auto.buffer ∙ inv.room;
+      some = omega (arith, c.read_from.auto.buffer, inv.some);
+      few = omega (arith, c.read_from.auto.buffer, inv.few);
+      reach = reach_on (g.L.Reread.text c.args.log.now) (g.L.Reread.text c.loop-offset.log) _ _ c.loop-offset.offset c.in_ok-count.count inv.same inv.reach c.in_ok-count.ensures.joins;
       same = keeps_on (g.L.Reread.text c.args.log.now) (g.L.Reread.text c.loop-offset.log) (g.L.Reread.text c.read_from.new.source) inv.same c.in_ok-count.ensures.same;
       failures = c.in_ok-count.ensures.cause.innocent (ok_is_no_fault c.in_ok-count.count ReadLog) ∙ inv.failures;
     }

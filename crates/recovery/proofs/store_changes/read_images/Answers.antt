@@ -1,6 +1,7 @@
 use Rattle.std.proofs.Common.{◌≡◌, ◌+◌, ◌++◌, [], List, ℕ, length, take, drop, refl, sym, ap, subst, ◌∙◌, arith, append_assoc, append-nil, length-append, length-take}
 use Rattle.std.specs.Prelude.{IfSome}
 use Rattle.std.proofs.KnownBytes.{Keeps-refl, Keeps-trans}
+use Rattle.device.proofs.Reach.{reach_on, read_all}
 use Rattle.page.specs.declared.fault.Fault.TheVariants.{ReadStore}
 use Rattle.page.specs.declared.sizes.TheConstants.{STORE_HEADER_BYTES}
 use Rattle.recovery.proofs.ByPieces.{ok_is_no_fault}
@@ -14,6 +15,7 @@ loop-offset-init g c =
       size = c.requires.header;
       whole = (0, refl);
       came = ([], sym (append-nil c.args.reader), come_none (g.R.Reread.text c.args.source.now) STORE_HEADER_BYTES);
+      reach = c.requires.begun;
       same = Keeps-refl (g.R.Reread.text c.args.source.now);
       failures = refl;
     }
@@ -55,6 +57,17 @@ loop-offset-preserved g c =
       size = omega (arith, ap (λ (l : List ℕ). length l) c.take.ensures, length-append c.loop-offset.reader piece, length-take count buffer, inv.size, c.in_ok-count.ensures.within, c.if-count-lt-PIECE.false, c.read_from.auto.buffer, inv.room);
       whole = (inv.whole.0 + 1, omega (arith, inv.whole.1));
       came = (behind ++ piece, same, come_more old now STORE_HEADER_BYTES offset behind buffer count inv.same came at c.in_ok-count.ensures.bytes c.in_ok-count.ensures.within);
+      reach = reach_on old now _ _ offset count inv.same inv.reach c.in_ok-count.ensures.joins;
       same = Keeps-trans old now (g.R.Reread.text c.read_from.new.source) inv.same c.in_ok-count.ensures.same;
       failures = c.in_ok-count.ensures.cause.innocent (ok_is_no_fault c.in_ok-count.count ReadStore) ∙ inv.failures;
     }
+
+pub returns-then-count-lt-PIECE-clause-end : goal.returns-then-count-lt-PIECE-clause-end
+returns-then-count-lt-PIECE-clause-end g c =
+    let inv = c.loop-offset.invariant in
+    let old = g.R.Reread.text c.args.source.now in
+    let now = g.R.Reread.text c.loop-offset.source in
+    let offset = c.loop-offset.offset in
+    let count = c.in_ok-count.count in
+    let ends = c.in_ok-count.ensures.end (omega (arith, c.if-count-lt-PIECE.true, c.read_from.auto.buffer, inv.room)) in
+    read_all old now _ (offset + count) inv.same (reach_on old now _ _ offset count inv.same inv.reach c.in_ok-count.ensures.joins) ends

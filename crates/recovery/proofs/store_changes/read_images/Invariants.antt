@@ -1,6 +1,7 @@
--- What came after the header was read, whole pieces. The device holds the same bytes, and has not failed.
+-- What came after the header was read, whole pieces. The device is read as far, holds the same bytes, and has not failed.
 use Rattle.std.proofs.Common.{◌≡◌, ℕ, List, ◌+◌, ◌*◌, ◌-◌, ◌++◌, length}
 use Rattle.std.specs.Io.KnownBytes.{Keeps}
+use Rattle.device.specs.Reread.{ReachesTo}
 use Rattle.page.specs.declared.sizes.TheConstants.{STORE_HEADER_BYTES}
 use Rattle.recovery.specs.declared.store_pieces.TheConstants.{PIECE}
 use Rattle.recovery.proofs.Rewritten.{ComeFrom}
@@ -13,6 +14,7 @@ invariant-loop-offset g l =
       size : length l.reader ≡ l.offset;
       whole : (pieces : ℕ) × (l.offset ≡ STORE_HEADER_BYTES + PIECE * pieces);
       came : (behind : List ℕ) × (l.reader ≡ l.fn.reader ++ behind) × ComeFrom (g.R.Reread.text l.fn.source) STORE_HEADER_BYTES behind;
+      reach : ReachesTo (g.R.Reread.text l.fn.source) l.offset (g.R.Reread.read_to l.source);
       same : Keeps (g.R.Reread.text l.fn.source) (g.R.Reread.text l.source);
       failures : g.R.Source.failures l.source ≡ g.R.Source.failures l.fn.source;
     }

@@ -2,6 +2,7 @@ use Rattle.std.proofs.Common.{◌≡◌, ◌+◌, ◌*◌, ◌-◌, ◌/◌, Lis
 use Rattle.std.proofs.KnownBytes.{Keeps-trans}
 use Rattle.std.specs.Io.KnownBytes.{Appends}
 use Rattle.device.specs.Transfer.{TookBeginning}
+use Rattle.device.proofs.Reach.{grows_on}
 use Rattle.page.specs.declared.profile.TheConstants.{PAGE_BYTES}
 use Rattle.page.specs.File.{store_text}
 use Rattle.page.specs.declared.fault.Fault.TheVariants.{ReadStore, WriteStore}
@@ -43,6 +44,7 @@ loop-first-preserved g c =
       room = omega (arith, length-append piece (drop (PAGE_BYTES * images) c.loop-first.room), length-drop (PAGE_BYTES * images) c.loop-first.room, c.read_changed.auto.images, size, c.min-images.ensures, inv.room);
       count_is = inv.count_is;
       within = omega (arith, c.min-images.ensures, inv.within);
+      grows = grows_on (g.R.Reread.text c.args.store.now) (g.R.Reread.text c.loop-first.store) _ _ _ inv.same inv.grows c.in_ok-read_changed.ensures.grows;
       same = Keeps-trans (g.R.Reread.text c.args.store.now) (g.R.Reread.text c.loop-first.store) (g.R.Reread.text c.read_changed.new.store) inv.same c.in_ok-read_changed.ensures.same;
       taken = λ before shown is fits s.
           let still = still_told (g.R.Reread.text c.args.store.now) (g.R.Reread.text c.loop-first.store) (store_text before) inv.same is in

@@ -1,6 +1,7 @@
--- The images of the pages before this one are written, the source holds what it held, and no device has failed.
+-- The images of the pages before this one are written, the source holds what it held and is read no less far, and no device has failed.
 use Rattle.std.proofs.Common.{◌≡◌, ◌≤◌, ◌-◌, length}
 use Rattle.std.specs.Io.KnownBytes.{Keeps}
+use Rattle.device.specs.Reread.{ReachGrows}
 use Rattle.recovery.specs.declared.store_pieces.TheConstants.{PIECE}
 use Rattle.recovery.specs.StoreChanges.{TookImages}
 use Rattle.recovery.proofs.store_changes.write_images.Given as goal
@@ -11,6 +12,7 @@ invariant-loop-first g l =
       room : length l.room ≡ PIECE;
       count_is : l.count ≡ length l.changes;
       within : l.first ≤ l.count;
+      grows : ReachGrows (g.R.Reread.text l.fn.store) (g.R.Reread.read_to l.fn.store) (g.R.Reread.read_to l.store);
       same : Keeps (g.R.Reread.text l.fn.store) (g.R.Reread.text l.store);
       taken : TookImages (g.R.Reread.text l.fn.store) l.changes l.first g.S.Sink l.fn.out l.out;
       unflushed : Keeps (g.S.Sink.flushed l.fn.out) (g.S.Sink.flushed l.out);
