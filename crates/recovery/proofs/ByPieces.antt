@@ -24,7 +24,7 @@ use Rattle.recovery.specs.Recovery.{Recovers, RecoveryCause}
 use Rattle.recovery.specs.Devices.{FailsOnlyWith, IsFaultOf, SourcesGave, DeviceCause, IsResourceOrDevice}
 use Rattle.recovery.specs.TailFile.{tail_text, sum_of, end_of}
 use Rattle.recovery.specs.InPlace.{IsLeftIn, Prepares, tail_of, LeavesInPlace}
-use Rattle.recovery.specs.ByPieces.{IsOfLog, fault_of, ReadingCause, MeasuresLog, continued_log}
+use Rattle.recovery.specs.ByPieces.{IsOfLog, OnceLogRead, LogComesFirst, fault_of, ReadingCause, MeasuresLog, continued_log}
 use Rattle.recovery.proofs.Bytes.{input_cause}
 use Rattle.recovery.proofs.Delivered.{device_cause, is_resource}
 use Rattle.recovery.proofs.InPlace.{same_tail}
@@ -97,6 +97,17 @@ pub untouched : {L S : Type 0} (log : Sink L) (a : L) (store : Sink S) (b : S) (
 untouched log a store b log_left store_left WriteLog h = absurd h
 untouched log a store b log_left store_left WriteStore h = absurd h
 untouched log a store b log_left store_left e h = (Keeps-refl (log.taken a), Keeps-refl (store.taken b))
+
+-- THE LOG is read to its end before a fault is returned
+pub comes_first : (log_read store_read : Type 0) (e : Fault) → OnceLogRead log_read e → LogComesFirst log_read store_read e
+comes_first log_read store_read NoResource h = tt
+comes_first log_read store_read ReadLog h = tt
+comes_first log_read store_read WriteLog h = tt
+comes_first log_read store_read WriteStore h = tt
+comes_first log_read store_read BadWorkers h = tt
+comes_first log_read store_read BadParting h = tt
+comes_first log_read store_read ReadStore h = inl h
+comes_first log_read store_read e h = h
 
 -- A STORE with other pages
 pub store_same : (before : StoreContent) (m : ℕ) (after items : List Page) → before.master ≡ m → after ≡ items → store_with before after ≡ record { master = m; pages = items }

@@ -14,7 +14,7 @@ use Rattle.restart.specs.declared.options.Options.{Options}
 use Rattle.recovery.specs.declared.by_pieces.Continuation.{Continuation}
 use Rattle.recovery.specs.Recovery.{Recovers, AreLawful}
 use Rattle.recovery.specs.Devices.{FailsOnlyWith, SourcesGave, Makes, DeviceCause, IsResourceOrDevice}
-use Rattle.recovery.specs.ByPieces.{IsOfLog, MeasuresLog, continued_log}
+use Rattle.recovery.specs.ByPieces.{IsOfLog, LogComesFirst, MeasuresLog, continued_log}
 use Rattle.recovery.specs.Copying.{LeavesCopied, IsOutCopied, LeavesCutCopied}
 use Rattle.recovery.proofs.Delivered.{behind_front, makes}
 use Rattle.recovery.proofs.Resuming.{leaves_cut}
@@ -66,6 +66,13 @@ module _ {L S : Type 0} (out_log : Sink L) (a b : L) (out_store : Sink S) (c d :
   copied_cause log_left store_left options WriteLog h = tt
   copied_cause log_left store_left options WriteStore h = tt
   copied_cause log_left store_left options e h = absurd h
+
+  pub copied_after : (log_read store_read : Type 0) (e : Fault) → store_read → LeavesCopied out_log a b out_store c d new_log new_store e → LogComesFirst log_read store_read e
+  copied_after log_read store_read ReadLog read h = tt
+  copied_after log_read store_read ReadStore read h = inr read
+  copied_after log_read store_read WriteLog read h = tt
+  copied_after log_read store_read WriteStore read h = tt
+  copied_after log_read store_read e read h = absurd h
 
   pub copied_cut : {base : BasePages} {log store : List ℕ} (bytes : AreLawful base log store) → Reads new_log (with_tail bytes.decoded.read) 0
       → (e : Fault) → LeavesCopied out_log a b out_store c d new_log new_store e → LeavesCutCopied out_log a b (record { base = base; log = log; store = store; bytes = bytes }) e

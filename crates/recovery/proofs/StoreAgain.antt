@@ -22,7 +22,7 @@ use Rattle.recovery.specs.Recovery.{Recovers, AreLawful}
 use Rattle.restart.specs.declared.options.Options.{Options}
 use Rattle.recovery.specs.Devices.{Gave, SourcesGave, DeviceCause, IsResourceOrDevice, FailsOnlyWith}
 use Rattle.recovery.specs.declared.store_changes.DecodedLsns.{DecodedLsns}
-use Rattle.recovery.specs.ByPieces.{IsOfLog, StoreFails}
+use Rattle.recovery.specs.ByPieces.{IsOfLog, LogComesFirst, StoreFails}
 use Rattle.recovery.specs.StoreChanges.{AreDecodedLsns, DecodesLsns, IsBegun, IsRewriteFault, IsOfRewriting}
 use Rattle.recovery.specs.declared.tail_file.TailFile.{TailFile}
 use Rattle.recovery.specs.InPlace.{Prepares, LeavesInPlace, HoldsCut, ContinuesBy, LeavesReread, LeavesChanged, IsLeftReread}
@@ -106,6 +106,12 @@ module _ {L S : Type 0} (log : Sink L) (a b : L) (store : Sink S) (c d : S) (kep
   cause_left log_left store_left options WriteLog h = tt
   cause_left log_left store_left options WriteStore h = tt
   cause_left log_left store_left options e h = absurd h
+
+  pub left_after : (log_read store_read : Type 0) (e : Fault) → store_read → LeavesReread log a b store c d kept frames new_store e → LogComesFirst log_read store_read e
+  left_after log_read store_read ReadStore read h = inr read
+  left_after log_read store_read WriteLog read h = tt
+  left_after log_read store_read WriteStore read h = tt
+  left_after log_read store_read e read h = absurd h
 
 -- a fault of the log leaves all as it was
 pub untouched_reread : {L S : Type 0} (log : Sink L) (a : L) (store : Sink S) (b : S) (log_left store_left : Option (List ℕ)) (e : Fault) → IsOfLog e → IsLeftReread log a a store b b log_left store_left e
