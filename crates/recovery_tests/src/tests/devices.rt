@@ -2,7 +2,6 @@
 
 mod calls;
 mod in_place;
-mod large;
 
 use aries::{Options, read_store_whole, recover, recover_copying};
 use checks::{check, check_all};

@@ -185,7 +185,7 @@ fn failing_calls(alloc: Global, worked: &Worked, device: Device) -> Result<Calls
 /// The header of the store takes 4 calls, its page 147, and one call finds the end. When the store
 /// is read once more, after the log is continued, its page takes 147 calls.
 #[test]
-fn a_large_store_fails_at_each_read(rt: HostRuntime) -> Result<(), Fail> {
+fn a_store_fails_at_each_read(rt: HostRuntime) -> Result<(), Fail> {
     let alloc = rt.alloc();
     let worked = worked_two_losers(alloc)?;
     let calls = failing_calls(alloc, &worked, Device::StoreSource)?;
@@ -213,7 +213,7 @@ fn a_log_fails_at_each_read(rt: HostRuntime) -> Result<(), Fail> {
 /// is cut and flushed before it takes the same frames. The header of the store takes 4 calls, and
 /// its page 147. Each sink is flushed at the end.
 #[test]
-fn each_sink_of_a_large_store_fails_at_each_call(rt: HostRuntime) -> Result<(), Fail> {
+fn each_sink_in_place_fails_at_each_call(rt: HostRuntime) -> Result<(), Fail> {
     let alloc = rt.alloc();
     let worked = worked_two_losers(alloc)?;
     let tail = failing_calls(alloc, &worked, Device::Tail)?;
@@ -234,7 +234,7 @@ fn each_sink_of_a_large_store_fails_at_each_call(rt: HostRuntime) -> Result<(), 
 
 /// A flush that fails leaves all that was to be flushed.
 #[test]
-fn flushes_of_large_stores_fail(rt: HostRuntime) -> Result<(), Fail> {
+fn flushes_in_place_fail(rt: HostRuntime) -> Result<(), Fail> {
     let alloc = rt.alloc();
     let worked = worked_two_losers(alloc)?;
     let read = torn_log(alloc, &worked)?;
@@ -254,7 +254,7 @@ fn flushes_of_large_stores_fail(rt: HostRuntime) -> Result<(), Fail> {
 
 /// If both sources fail, the fault is the log's.
 #[test]
-fn both_sources_of_a_large_store_fail(rt: HostRuntime) -> Result<(), Fail> {
+fn both_sources_in_place_fail(rt: HostRuntime) -> Result<(), Fail> {
     let alloc = rt.alloc();
     let worked = worked_two_losers(alloc)?;
     let bytes = worked.row.given.bytes.as_slice();

@@ -173,7 +173,7 @@ fn options_refusal(
 }
 
 #[test]
-fn options_out_of_range_for_large_stores(rt: HostRuntime) -> Result<(), Fail> {
+fn options_out_of_range_in_place(rt: HostRuntime) -> Result<(), Fail> {
     let alloc = rt.alloc();
     let mut worked = worked_one_commit(alloc)?;
     worked.before = spoiled_store(alloc, 7)?;
