@@ -164,8 +164,6 @@ CUTS = {
         wal/image.rt:compensation_image
         analysis/scan.rt:prepared wal/field.rt:put_entries wal/field.rt:put_dirties wal/field.rt:entry_bytes
         wal/field.rt:put_dirty wal/field.rt:dirty_bytes wal/field.rt:state_code''',
-    'a small store': 'recovery/large_store.rt recovery/large_copying.rt',
-    'a large store': 'recovery/copying.rt:recover_copying recovery/by_pieces.rt:recover_by_pieces recovery/log_again.rt:read_store_first',
     'a recovery': 'aries/files.rt:audit_files aries/files.rt:read_file aries/program.rt:run_audit command/job.rt:audit_job',
     'new files': '''aries/in_place.rt aries/names.rt aries/left.rt aries/new_tail.rt recovery/in_place.rt recovery/tail_file.rt
         aries/program.rt:name_and_run aries/program.rt:text_of''',
@@ -191,15 +189,13 @@ CUTS = {
 FEW = ['nothing fails', 'no checkpoint', 'updates and commits alone are read']
 # each way: its name, the most functions that it is to have, where it begins, and what it does not take
 WAYS = [
-    ('recover, 3 records', 315, 'aries_cli/main.rt:main', FEW + ['a recovery', 'a small store', 'new files', 'in pieces', 'one worker']),
-    ('recover in place, 3 records', 358, 'aries_cli/main.rt:main', FEW + ['a recovery', 'a small store', 'in place', 'in pieces', 'one worker']),
-    ('recover, a large store', 318, 'aries_cli/main.rt:main', FEW + ['a recovery', 'a large store', 'new files', 'in pieces', 'one worker']),
-    ('recover in place, a large store', 361, 'aries_cli/main.rt:main', FEW + ['a recovery', 'a large store', 'in place', 'in pieces', 'one worker']),
-    ('recover in memory, 3 records, 1 worker', 284, 'aries_cli/main.rt:main', FEW + ['a recovery', 'a small store', 'new files', 'in memory', 'one worker']),
+    ('recover, 3 records', 315, 'aries_cli/main.rt:main', FEW + ['a recovery', 'new files', 'in pieces', 'one worker']),
+    ('recover in place, 3 records', 358, 'aries_cli/main.rt:main', FEW + ['a recovery', 'in place', 'in pieces', 'one worker']),
+    ('recover in memory, 3 records, 1 worker', 284, 'aries_cli/main.rt:main', FEW + ['a recovery', 'new files', 'in memory', 'one worker']),
     ('recover in memory, 3 records, 4 workers', 319, 'aries_cli/main.rt:main',
-     FEW + ['a recovery', 'a small store', 'new files', 'in memory', 'several workers', 'a short log']),
+     FEW + ['a recovery', 'new files', 'in memory', 'several workers', 'a short log']),
     ('recover in memory, 100 MB with a checkpoint, 4 workers', 372, 'aries_cli/main.rt:main',
-     ['nothing fails', 'a recovery', 'a small store', 'new files', 'in memory', 'several workers', 'a long log']),
+     ['nothing fails', 'a recovery', 'new files', 'in memory', 'several workers', 'a long log']),
     ('aries_recover (C)', 164, 'aries_c/recovered.rt:aries_recover', FEW + ['no threads']),
     ('audit, with a checkpoint', 238, 'aries_cli/main.rt:main', ['nothing fails', 'an audit']),
     ('aries_dump log', 157, 'aries_dump/main.rt:main', ['nothing fails', 'a log']),

@@ -4,7 +4,7 @@ ghost use Rattle.std.specs.Prelude.{◌≢◌};
 ghost use Rattle.page.specs.declared.fault.Fault.TheVariants.{NoResource};
 
 use crate::new_file::{make, open, sync_folder};
-use device::{FileSink, FileSource, MemorySource, Source, read_full};
+use device::{FileSink, FileSource, MemorySource, Reread, Source, read_full_at};
 use job_files::{NotedFile, Notes};
 use page::Fault;
 use recovery::{
@@ -72,21 +72,28 @@ fn options_for(options: &Options, may_be_one: bool, bytes: usize) -> Options {
     chosen
 }
 
-/// Whether no LSN of a log is above the largest base LSN. A log has fewer records than bytes. Only
-/// a failure of this reading is noted.
-pub fn has_low_lsns<R: Files + Clock>(rt: &R, alloc: Global, log: &Notes) -> Result<bool, Fault> {
+/// Whether no LSN of an open log, which is a regular file, is above the largest base LSN. A log has
+/// fewer records than bytes. Only a failure of this reading is noted. The file is at its beginning
+/// afterwards.
+pub fn has_low_lsns<C: Clock>(
+    clock: &C,
+    alloc: Global,
+    file: &File,
+    log: &Notes,
+) -> Result<bool, Fault> {
     let notes = Notes::new(log.role, log.path);
-    let file = open(rt, log, Fault::ReadLog)?;
-    let mut source = FileSource::sized(NotedFile::new(file, rt, &notes));
+    let mut source = FileSource::new(NotedFile::new(file, clock, &notes));
     let mut header = [0; BASED_HEADER_BYTES];
-    let Ok(count) = read_full(&mut source, &mut header) else {
+    let count = read_full_at(&mut source, 0, &mut header);
+    let (Ok(count), Ok(_)) = (count, source.read_at(0, &mut [])) else {
         if let Some(failure) = notes.failure() {
             log.note(failure);
         }
         return Err(Fault::ReadLog);
     };
+    let length = file.metadata().map_or(0, |metadata| metadata.len());
     match read_log(alloc, &header[..count]) {
-        Ok((log, _)) => Ok(log.base() <= LARGEST_BASE.saturating_sub(source.hint() as u64)),
+        Ok((log, _)) => Ok(log.base() <= LARGEST_BASE.saturating_sub(length)),
         Err(_) => Ok(true),
     }
 }
@@ -103,8 +110,8 @@ pub fn is_large<F: OpenFile>(store: &F) -> bool {
 /// file, which can be read again, and none of its LSNs is above the largest base LSN. Then a large
 /// store in a regular file is read in pieces too. `ReadLog` if the header of the log could not be
 /// read.
-fn reading_of<R: Files<File = File> + Clock>(
-    rt: &R,
+fn reading_of<C: Clock>(
+    clock: &C,
     alloc: Global,
     log: &File,
     store: &File,
@@ -114,7 +121,7 @@ fn reading_of<R: Files<File = File> + Clock>(
         Ok(metadata) if metadata.is_file() => {}
         _ => return Ok(Reading::Whole),
     }
-    if !has_low_lsns(rt, alloc, notes)? {
+    if !has_low_lsns(clock, alloc, log, notes)? {
         return Ok(Reading::Whole);
     }
     Ok(if is_large(store) {

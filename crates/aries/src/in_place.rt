@@ -62,11 +62,11 @@ fn make_store<R: Files<File = File>>(
 }
 
 /// Refuses a log that cannot be read in pieces, since its LSNs may pass 2^63 - 1.
-fn check_lsns<R: Files + Clock>(rt: &R, alloc: Global, log: &Notes) -> Result<(), Fault> {
-    if has_low_lsns(rt, alloc, log)? {
+fn check_lsns<C: Clock>(clock: &C, alloc: Global, log: &File, notes: &Notes) -> Result<(), Fault> {
+    if has_low_lsns(clock, alloc, log, notes)? {
         return Ok(());
     }
-    Err(turn_down(log, Refusal::HighLsns, Fault::WriteLog))
+    Err(turn_down(notes, Refusal::HighLsns, Fault::WriteLog))
 }
 
 /// Recovers from open files into new ones that were made, and continues the log.
@@ -200,7 +200,7 @@ pub fn recover_files_in_place<'x, R: Files<File = File> + Clock>(
 ) -> Result<Done, Fault> {
     let opened = open_in_place(rt, alloc, files)?;
     settle(rt, files, &opened)?;
-    check_lsns(rt, alloc, &files.log)?;
+    check_lsns(rt, alloc, &opened.log, &files.log)?;
     let _lock = match opened.lock.try_clone() {
         Ok(lock) => lock,
         Err(error) => return Err(refuse(&files.out_log, Call::Lock, error, Fault::WriteLog)),

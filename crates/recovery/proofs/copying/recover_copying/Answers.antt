@@ -4,10 +4,12 @@ use Rattle.page.specs.declared.fault.Fault.TheVariants.{ReadLog, ReadStore, Writ
 use Rattle.passes.proofs.Reached.{still_told}
 use Rattle.wal.specs.Reads.{Reads}
 use Rattle.log_laws.specs.Tail.{with_tail}
-use Rattle.recovery.specs.ByPieces.{store_made}
+use Rattle.device.specs.Reread.{IsReadThrough}
+use Rattle.device.proofs.Reach.{read_still}
+use Rattle.recovery.specs.ByPieces.{OnceLogRead, store_made}
 use Rattle.recovery.specs.Recovery.{Recovered}
-use Rattle.recovery.proofs.ByPieces.{of_log, by_device, ok_is_no_fault}
-use Rattle.recovery.proofs.Copies.{copy_is, makes_copy, copied_resource, copied_cause, copied_cut, copied_out, nothing_copied, failed_since}
+use Rattle.recovery.proofs.ByPieces.{of_log, by_device, comes_first, ok_is_no_fault}
+use Rattle.recovery.proofs.Copies.{copy_is, makes_copy, copied_resource, copied_cause, copied_after, copied_cut, copied_out, nothing_copied, failed_since}
 use Rattle.recovery.proofs.Delivered.{cut_lawful, completed}
 use Rattle.recovery.proofs.StoreAgain.{decoded_lsns, both_give, store_since, store_none, again_at}
 use Rattle.recovery.proofs.copying.recover_copying.Goals as goal
@@ -232,3 +234,52 @@ returns-clause-log_out_first g c = λ log_text store_bytes is tells.
     let (after, shown, recovers) = makes.recovers in
     let made = makes_copy (Some store_bytes) log_text store_bytes x.log (store_made x after) (both_give log_text store_bytes) measured recovers in
     inr (made, c.in_ok-write_copied.ensures.log_out log_text later within)
+
+pub returns-in_err-decoded-clause-log_read : goal.returns-in_err-decoded-clause-log_read
+returns-in_err-decoded-clause-log_read g c =
+    let exit = err_from_is_err_and c.from_residual-in_err-decoded.result c.from_residual-in_err-decoded.ensures.1 in
+    rw (exit.1, exit.2) (λ log_text store_bytes is tells.
+    comes_first _ _ c.in_err-decoded.field-0.0
+    (subst (λ held. OnceLogRead (IsReadThrough held (g.LR.Reread.read_to c.read_store_first.new.log)) c.in_err-decoded.field-0.0) is c.in_err-decoded.ensures.log_read))
+
+pub returns-in_err-made-clause-read_to_end : goal.returns-in_err-made-clause-read_to_end
+returns-in_err-made-clause-read_to_end g c =
+    let exit = err_from_is_err_and c.from_residual-in_err-made.result c.from_residual-in_err-made.ensures.1 in
+    rw (exit.1, exit.2) (λ after. c.in_ok-decoded.ensures.end)
+
+pub returns-in_err-made-clause-log_read : goal.returns-in_err-made-clause-log_read
+returns-in_err-made-clause-log_read g c =
+    let exit = err_from_is_err_and c.from_residual-in_err-made.result c.from_residual-in_err-made.ensures.1 in
+    rw (exit.1, exit.2) (λ log_text store_bytes is tells.
+    let still = ap g.LR.Reread.text c.in_ok-decoded.ensures.log_unread ∙ is in
+    comes_first _ _ c.in_err-made.field-0.0
+    (subst (λ held. OnceLogRead (IsReadThrough held (g.LR.Reread.read_to c.make.new.log)) c.in_err-made.field-0.0) still c.in_err-made.ensures.read))
+
+pub returns-in_err-write_copied-clause-read_first : goal.returns-in_err-write_copied-clause-read_first
+returns-in_err-write_copied-clause-read_first g c = inr (read_still (g.SR.Reread.text c.args.store.now) (g.SR.Reread.text c.read_store_first.new.store) _ _ c.in_ok-decoded.ensures.kept c.in_ok-decoded.ensures.end c.write_copied.ensures.grows)
+
+pub returns-in_err-write_copied-clause-read_to_end : goal.returns-in_err-write_copied-clause-read_to_end
+returns-in_err-write_copied-clause-read_to_end g c =
+    let exit = err_from_is_err_and c.from_residual-in_err-write_copied.result c.from_residual-in_err-write_copied.ensures.1 in
+    rw (exit.1, exit.2) (λ after. read_still (g.SR.Reread.text c.args.store.now) (g.SR.Reread.text c.read_store_first.new.store) _ _ c.in_ok-decoded.ensures.kept c.in_ok-decoded.ensures.end c.write_copied.ensures.grows)
+
+pub returns-clause-read_first : goal.returns-clause-read_first
+returns-clause-read_first g c = inr (read_still (g.SR.Reread.text c.args.store.now) (g.SR.Reread.text c.read_store_first.new.store) _ _ c.in_ok-decoded.ensures.kept c.in_ok-decoded.ensures.end c.write_copied.ensures.grows)
+
+pub returns-in_err-write_copied-clause-log_read : goal.returns-in_err-write_copied-clause-log_read
+returns-in_err-write_copied-clause-log_read g c =
+    let exit = err_from_is_err_and c.from_residual-in_err-write_copied.result c.from_residual-in_err-write_copied.ensures.1 in
+    rw (exit.1, exit.2) (λ log_text store_bytes is tells.
+    let decodes = decoded_lsns (g.SR.Reread.text c.args.store.now) c.in_ok-decoded.decoded store_bytes tells c.in_ok-decoded.ensures.read in
+    let still = ap g.LR.Reread.text c.in_ok-decoded.ensures.log_unread ∙ is in
+    let later = still_told (g.LR.Reread.text c.read_store_first.new.log) (g.LR.Reread.text c.make.new.log) log_text c.in_ok-made.ensures.same still in
+    let again = still_told (g.SR.Reread.text c.args.store.now) (g.SR.Reread.text c.read_store_first.new.store) store_bytes c.in_ok-decoded.ensures.kept tells in
+    let x = c.in_ok-made.made in
+    let measured = c.in_ok-made.ensures.measured log_text still in
+    let within : x.log.kept ≤ length log_text = omega (arith, measured.kept_is) in
+    let makes = c.in_ok-made.ensures.answer log_text store_bytes still decodes in
+    let (after, shown, recovers) = makes.recovers in
+    let leaves = c.in_err-write_copied.ensures.fault log_text later within makes.before after (again_at _ store_bytes makes.before again makes.spells) makes.spells.fits shown in
+    let read = read_still (g.SR.Reread.text c.args.store.now) (g.SR.Reread.text c.read_store_first.new.store) _ _ c.in_ok-decoded.ensures.kept c.in_ok-decoded.ensures.end c.write_copied.ensures.grows in
+    copied_after g.LW.Sink c.args.out_log.now c.write_copied.new.to g.SW.Sink c.args.out_store.now c.write_copied.new.out (take x.log.kept log_text ++ x.log.frames.items) (store_made x after) _ _ c.in_err-write_copied.field-0.0
+    (subst (λ held. IsReadThrough held (g.SR.Reread.read_to c.write_copied.new.store)) tells read) leaves)

@@ -1,14 +1,15 @@
-use Rattle.std.proofs.Common.{◌-◌, length, Some, refl, ap, inl, inr, ◌∙◌, arith}
+use Rattle.std.proofs.Common.{◌-◌, length, Some, refl, ap, sym, subst, inl, inr, ◌∙◌, arith}
 use Rattle.std.proofs.lemmas.Result.{err_from_is_err_and}
 use Rattle.page.specs.declared.fault.Fault.TheVariants.{ReadLog, ReadStore}
 use Rattle.passes.proofs.Reached.{still_told}
-use Rattle.recovery.specs.ByPieces.{continued_log}
 use Rattle.recovery.specs.InPlace.{Prepares}
-use Rattle.recovery.specs.ByPieces.{store_made}
+use Rattle.device.specs.Reread.{IsReadThrough}
+use Rattle.device.proofs.Reach.{read_still}
+use Rattle.recovery.specs.ByPieces.{LogComesFirst, OnceLogRead, continued_log, store_made}
 use Rattle.recovery.proofs.Delivered.{cut_lawful}
 use Rattle.recovery.proofs.InPlace.{on_err, holds_more, settled_in_place, has_tail, continued_as}
-use Rattle.recovery.proofs.ByPieces.{of_log, by_device, prepares, tail_made, other_failed, none_failed, ok_is_no_fault}
-use Rattle.recovery.proofs.StoreAgain.{decoded_lsns, both_give, reread_as, left_reread, cut_reread, untouched_reread, device_left, cause_left, not_read_log, not_log, store_since, store_none, again_at}
+use Rattle.recovery.proofs.ByPieces.{of_log, by_device, comes_first, prepares, tail_made, other_failed, none_failed, ok_is_no_fault}
+use Rattle.recovery.proofs.StoreAgain.{decoded_lsns, both_give, reread_as, left_reread, cut_reread, untouched_reread, device_left, cause_left, left_after, not_read_log, not_log, store_since, store_none, again_at}
 use Rattle.recovery.proofs.in_place.recover_in_place.Goals as goal
 
 pub returns-in_err-made-clause-lawful : goal.returns-in_err-made-clause-lawful
@@ -289,3 +290,83 @@ returns-clause-answer g c = λ log_text store_bytes is tells.
       log_out = done.continued;
       store_out = (c.in_ok-write_in_place.ensures.store_out makes.before after (again_at _ store_bytes makes.before again makes.spells) makes.spells.fits shown).out;
     }
+
+pub returns-in_err-decoded-clause-log_read : goal.returns-in_err-decoded-clause-log_read
+returns-in_err-decoded-clause-log_read g c =
+    let exit = err_from_is_err_and c.from_residual-in_err-decoded.result c.from_residual-in_err-decoded.ensures.1 in
+    rw (exit.1, exit.2) (λ log_text store_bytes is tells.
+    comes_first _ _ c.in_err-decoded.field-0.0
+    (subst (λ held. OnceLogRead (IsReadThrough held (g.LR.Reread.read_to c.read_store_first.new.log)) c.in_err-decoded.field-0.0) is c.in_err-decoded.ensures.log_read))
+
+pub returns-in_err-made-clause-read_to_end : goal.returns-in_err-made-clause-read_to_end
+returns-in_err-made-clause-read_to_end g c =
+    let exit = err_from_is_err_and c.from_residual-in_err-made.result c.from_residual-in_err-made.ensures.1 in
+    rw (exit.1, exit.2) (λ after. c.in_ok-decoded.ensures.end)
+
+pub returns-in_err-made-clause-log_read : goal.returns-in_err-made-clause-log_read
+returns-in_err-made-clause-log_read g c =
+    let exit = err_from_is_err_and c.from_residual-in_err-made.result c.from_residual-in_err-made.ensures.1 in
+    rw (exit.1, exit.2) (λ log_text store_bytes is tells.
+    let still = ap g.LR.Reread.text c.in_ok-decoded.ensures.log_unread ∙ is in
+    comes_first _ _ c.in_err-made.field-0.0
+    (subst (λ held. OnceLogRead (IsReadThrough held (g.LR.Reread.read_to c.make.new.log)) c.in_err-made.field-0.0) still c.in_err-made.ensures.read))
+
+pub returns-in_err-write_in_place-clause-read_first : goal.returns-in_err-write_in_place-clause-read_first
+returns-in_err-write_in_place-clause-read_first g c = inr (read_still (g.SR.Reread.text c.args.store.now) (g.SR.Reread.text c.read_store_first.new.store) _ _ c.in_ok-decoded.ensures.kept c.in_ok-decoded.ensures.end c.write_in_place.ensures.grows)
+
+pub returns-in_err-write_in_place-clause-read_to_end : goal.returns-in_err-write_in_place-clause-read_to_end
+returns-in_err-write_in_place-clause-read_to_end g c =
+    let exit = err_from_is_err_and c.from_residual-in_err-write_in_place.result c.from_residual-in_err-write_in_place.ensures.1 in
+    rw (exit.1, exit.2) (λ after. read_still (g.SR.Reread.text c.args.store.now) (g.SR.Reread.text c.read_store_first.new.store) _ _ c.in_ok-decoded.ensures.kept c.in_ok-decoded.ensures.end c.write_in_place.ensures.grows)
+
+pub returns-clause-read_first : goal.returns-clause-read_first
+returns-clause-read_first g c = inr (read_still (g.SR.Reread.text c.args.store.now) (g.SR.Reread.text c.read_store_first.new.store) _ _ c.in_ok-decoded.ensures.kept c.in_ok-decoded.ensures.end c.write_in_place.ensures.grows)
+
+pub returns-in_err-file-clause-read_to_end : goal.returns-in_err-file-clause-read_to_end
+returns-in_err-file-clause-read_to_end g c =
+    let exit = err_from_is_err_and c.from_residual-in_err-file.result c.from_residual-in_err-file.ensures.1 in
+    rw (exit.1, exit.2) (λ after. c.in_ok-decoded.ensures.end)
+
+pub returns-in_err-file-clause-log_read : goal.returns-in_err-file-clause-log_read
+returns-in_err-file-clause-log_read g c =
+    let exit = err_from_is_err_and c.from_residual-in_err-file.result c.from_residual-in_err-file.ensures.1 in
+    rw (exit.1, exit.2) (λ log_text store_bytes is tells.
+    let still = ap g.LR.Reread.text c.in_ok-decoded.ensures.log_unread ∙ is in
+    let later = still_told (g.LR.Reread.text c.read_store_first.new.log) (g.LR.Reread.text c.make.new.log) log_text c.in_ok-made.ensures.same still in
+    let measured = c.in_ok-made.ensures.measured log_text still in
+    subst (LogComesFirst _ _) (sym (c.in_err-file.ensures.fault log_text later measured)) tt)
+
+pub returns-in_err-write_in_place-clause-log_read : goal.returns-in_err-write_in_place-clause-log_read
+returns-in_err-write_in_place-clause-log_read g c =
+    let exit = err_from_is_err_and c.from_residual-in_err-write_in_place.result c.from_residual-in_err-write_in_place.ensures.1 in
+    rw (exit.1, exit.2) (λ log_text store_bytes is tells.
+    let decodes = decoded_lsns (g.SR.Reread.text c.args.store.now) c.in_ok-decoded.decoded store_bytes tells c.in_ok-decoded.ensures.read in
+    let still = ap g.LR.Reread.text c.in_ok-decoded.ensures.log_unread ∙ is in
+    let again = still_told (g.SR.Reread.text c.args.store.now) (g.SR.Reread.text c.read_store_first.new.store) store_bytes c.in_ok-decoded.ensures.kept tells in
+    let makes = c.in_ok-made.ensures.answer log_text store_bytes still decodes in
+    let (after, shown, recovers) = makes.recovers in
+    let stays = c.in_err-write_in_place.ensures.fault makes.before after (again_at _ store_bytes makes.before again makes.spells) makes.spells.fits shown in
+    let read = read_still (g.SR.Reread.text c.args.store.now) (g.SR.Reread.text c.read_store_first.new.store) _ _ c.in_ok-decoded.ensures.kept c.in_ok-decoded.ensures.end c.write_in_place.ensures.grows in
+    left_after g.LW.Sink c.args.out_log.now c.write_in_place.new.log g.SW.Sink c.args.out_store.now c.write_in_place.new.out_store c.in_ok-file.file.kept c.in_ok-file.file.frames.now (store_made c.in_ok-made.made after) _ _ c.in_err-write_in_place.field-0.0
+    (subst (λ held. IsReadThrough held (g.SR.Reread.read_to c.write_in_place.new.store)) tells read) stays)
+
+pub returns-in_err-write_in_place-clause-tail_flushed : goal.returns-in_err-write_in_place-clause-tail_flushed
+returns-in_err-write_in_place-clause-tail_flushed g c = elim c.write_in_place.ensures.tail_first [
+    | inl same ↦ inl same
+    | inr out ↦ inr out.flushed
+  ]
+
+pub returns-in_err-write_in_place-clause-flushed_first : goal.returns-in_err-write_in_place-clause-flushed_first
+returns-in_err-write_in_place-clause-flushed_first g c = elim c.write_in_place.ensures.log_first [
+    | inl same ↦ inl same
+    | inr done ↦ inr done.flushed
+  ]
+
+pub returns-clause-tail_flushed : goal.returns-clause-tail_flushed
+returns-clause-tail_flushed g c = elim c.write_in_place.ensures.tail_first [
+    | inl same ↦ inl same
+    | inr out ↦ inr out.flushed
+  ]
+
+pub returns-clause-flushed_first : goal.returns-clause-flushed_first
+returns-clause-flushed_first g c = inr c.in_ok-write_in_place.ensures.log_done.flushed

@@ -1,7 +1,8 @@
-use Rattle.std.proofs.Common.{refl, ap, ◌∙◌, arith, Err}
+use Rattle.std.proofs.Common.{refl, ap, ◌+◌, ◌∙◌, arith, Err}
 use Rattle.std.proofs.lemmas.Result.{err_from_is_err_and}
 use Rattle.page.specs.declared.fault.Fault.TheVariants.{ReadLog}
 use Rattle.passes.proofs.Reached.{keeps_same, keeps_on}
+use Rattle.device.proofs.Reach.{reach_on, reach_none, read_all}
 use Rattle.recovery.proofs.ByPieces.{ends_short, failed, memory_fails, none_failed, ok_is_no_fault}
 use Rattle.recovery.proofs.log_again.read_through.Goals as goal
 
@@ -19,18 +20,18 @@ returns-in_err-count-clause-cause g c =
     (failed _ (g.L.Source.failures c.args.log.now) (g.L.Source.failures c.loop-offset.log) (g.L.Source.failures c.read_from.new.source) (ap (λ e. Err e) c.in_err-count.ensures.fault) c.loop-offset.invariant.failures
     (c.in_err-count.ensures.cause.blamed (ap (λ e. Err e) c.in_err-count.ensures.fault)))
 
-pub returns-then-count-lt-ROOM-clause-end : goal.returns-then-count-lt-ROOM-clause-end
-returns-then-count-lt-ROOM-clause-end g c =
+pub returns-then-count-lt-len-clause-end : goal.returns-then-count-lt-len-clause-end
+returns-then-count-lt-len-clause-end g c =
     let inv = c.loop-offset.invariant in
-    ends_short (g.L.Reread.text c.args.log.now) (g.L.Reread.text c.loop-offset.log) _ inv.same (omega (arith, c.loop-offset-test.true, c.if-count-lt-ROOM.true))
-    (c.in_ok-count.ensures.end (omega (arith, c.if-count-lt-ROOM.true, c.read_from.auto.buffer, inv.room)))
+    ends_short (g.L.Reread.text c.args.log.now) (g.L.Reread.text c.loop-offset.log) _ inv.same (omega (arith, c.loop-offset-test.true, c.if-count-lt-len.true, c.read_from.auto.buffer, inv.few))
+    (c.in_ok-count.ensures.end (omega (arith, c.if-count-lt-len.true, c.read_from.auto.buffer, inv.room)))
 
-pub returns-then-count-lt-ROOM-clause-same : goal.returns-then-count-lt-ROOM-clause-same
-returns-then-count-lt-ROOM-clause-same g c =
+pub returns-then-count-lt-len-clause-same : goal.returns-then-count-lt-len-clause-same
+returns-then-count-lt-len-clause-same g c =
     keeps_on (g.L.Reread.text c.args.log.now) (g.L.Reread.text c.loop-offset.log) (g.L.Reread.text c.read_from.new.source) c.loop-offset.invariant.same c.in_ok-count.ensures.same
 
-pub returns-then-count-lt-ROOM-clause-cause : goal.returns-then-count-lt-ROOM-clause-cause
-returns-then-count-lt-ROOM-clause-cause g c =
+pub returns-then-count-lt-len-clause-cause : goal.returns-then-count-lt-len-clause-cause
+returns-then-count-lt-len-clause-cause g c =
     none_failed _ _ _ (c.in_ok-count.ensures.cause.innocent (ok_is_no_fault c.in_ok-count.count ReadLog) ∙ c.loop-offset.invariant.failures)
 
 pub loop-offset-preserved : goal.loop-offset-preserved
@@ -49,3 +50,13 @@ returns-clause-same g c = c.loop-offset.invariant.same
 
 pub returns-clause-cause : goal.returns-clause-cause
 returns-clause-cause g c = memory_fails _ _ _ refl c.loop-offset.invariant.failures
+
+pub returns-then-count-lt-len-clause-read : goal.returns-then-count-lt-len-clause-read
+returns-then-count-lt-len-clause-read g c =
+    let inv = c.loop-offset.invariant in
+    let old = g.L.Reread.text c.args.log.now in
+    let now = g.L.Reread.text c.loop-offset.log in
+    let offset = c.loop-offset.offset in
+    let count = c.in_ok-count.count in
+    let ends = c.in_ok-count.ensures.end (omega (arith, c.if-count-lt-len.true, c.read_from.auto.buffer, inv.few)) in
+    read_all old now _ (offset + count) inv.same (reach_on old now _ _ offset count inv.same inv.reach c.in_ok-count.ensures.joins) ends
