@@ -5,7 +5,7 @@ use Rattle.std.specs.Prelude.{IfSome}
 use Rattle.std.specs.Io.KnownBytes.{Keeps}
 use Rattle.std.proofs.KnownBytes.{Keeps-refl}
 use Rattle.device.specs.declared.traits.Sink.{Ghosts as Sink}
-use Rattle.device.specs.Reread.{EndsBy}
+use Rattle.device.specs.Reread.{EndsBy, IsReadThrough}
 use Rattle.page.specs.declared.fault.Fault.{Fault}
 use Rattle.page.specs.declared.fault.Fault.TheVariants.{NoResource, ReadLog, ReadStore, WriteLog, WriteStore, BadWorkers, BadParting}
 use Rattle.page.specs.declared.page.Page.{Page}
@@ -108,6 +108,16 @@ comes_first log_read store_read BadWorkers h = tt
 comes_first log_read store_read BadParting h = tt
 comes_first log_read store_read ReadStore h = inl h
 comes_first log_read store_read e h = h
+-- all of a device is read that holds what it held
+pub read_before : (before now : Option (List ℕ)) (m : ℕ) → Keeps before now → IsReadThrough now m → IsReadThrough before m
+read_before None now m kept read = tt
+read_before (Some held) None m kept read = absurd kept
+read_before (Some held) (Some same) m kept read = omega (arith, read, ap (λ (bytes : List ℕ). length bytes) kept)
+
+pub once_read : (before now : Option (List ℕ)) (m : ℕ) (e : Fault) → Keeps before now → OnceLogRead (IsReadThrough now m) e → OnceLogRead (IsReadThrough before m) e
+once_read before now m NoResource kept h = tt
+once_read before now m ReadLog kept h = tt
+once_read before now m e kept h = read_before before now m kept h
 
 -- A STORE with other pages
 pub store_same : (before : StoreContent) (m : ℕ) (after items : List Page) → before.master ≡ m → after ≡ items → store_with before after ≡ record { master = m; pages = items }

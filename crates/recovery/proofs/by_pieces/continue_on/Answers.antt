@@ -9,7 +9,7 @@ use Rattle.restart.specs.Restart.{store_with}
 use Rattle.recovery.specs.Recovery.{appended_frames, RecoveryCause}
 use Rattle.recovery.specs.Devices.{IsFaultOf}
 use Rattle.recovery.specs.ByPieces.{ReadingCause}
-use Rattle.recovery.proofs.ByPieces.{resource_of_log, reading_cause}
+use Rattle.recovery.proofs.ByPieces.{once_read, resource_of_log, reading_cause}
 use Rattle.recovery.proofs.Remaking.{recovers_by, recovered_by}
 use Rattle.recovery.proofs.by_pieces.continue_on.Goals as goal
 
@@ -31,6 +31,9 @@ returns-in-Err-clause-fault g c = λ text is before stored master numbered shows
           subst (ReadingCause text store options) (sym stopped)
           (reading_cause text store options before c.in-Err.stopped spells range (c.in-Err.ensures.fault text is before stored master numbered shows))
     ]
+
+pub returns-in-Err-clause-read : goal.returns-in-Err-clause-read
+returns-in-Err-clause-read g c = once_read (g.L.Reread.text c.args.log.now) (g.L.Reread.text c.restart_in_pieces.new.source) _ c.fault_after.result c.restart_in_pieces.ensures.same c.fault_after.ensures.read
 
 pub returns-clause-lawful : goal.returns-clause-lawful
 returns-clause-lawful g c = λ base text whole torn is reads before stored master numbered shows lawful.
