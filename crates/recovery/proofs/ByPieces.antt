@@ -108,6 +108,7 @@ comes_first log_read store_read BadWorkers h = tt
 comes_first log_read store_read BadParting h = tt
 comes_first log_read store_read ReadStore h = inl h
 comes_first log_read store_read e h = h
+
 -- all of a device is read that holds what it held
 pub read_before : (before now : Option (List ℕ)) (m : ℕ) → Keeps before now → IsReadThrough now m → IsReadThrough before m
 read_before None now m kept read = tt

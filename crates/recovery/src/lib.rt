@@ -49,11 +49,11 @@ mod unthreaded;
 pub use copying::recover_copying;
 pub use devices::{read_source, recover};
 pub use in_place::{continue_log, recover_in_place};
-pub use log_again::read_store_whole;
 pub use laws::{
     no_fault_of_a_recovery, no_fault_of_lawful_texts, no_fault_of_lawful_texts_over,
     one_audit_fault, one_audit_fault_over, one_recovery, one_recovery_fault,
 };
+pub use log_again::read_store_whole;
 pub use recovery::Recovery;
 pub use report::{Report, report_text};
 pub use tail_file::TailFile;

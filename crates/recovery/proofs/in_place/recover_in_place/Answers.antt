@@ -352,21 +352,21 @@ returns-in_err-write_in_place-clause-log_read g c =
 
 pub returns-in_err-write_in_place-clause-tail_flushed : goal.returns-in_err-write_in_place-clause-tail_flushed
 returns-in_err-write_in_place-clause-tail_flushed g c = elim c.write_in_place.ensures.tail_first [
-    | inl same ↦ inl same
-    | inr out ↦ inr out.flushed
-  ]
+  | inl same ↦ inl same
+  | inr out ↦ inr out.flushed
+]
 
 pub returns-in_err-write_in_place-clause-flushed_first : goal.returns-in_err-write_in_place-clause-flushed_first
 returns-in_err-write_in_place-clause-flushed_first g c = elim c.write_in_place.ensures.log_first [
-    | inl same ↦ inl same
-    | inr done ↦ inr done.flushed
-  ]
+  | inl same ↦ inl same
+  | inr done ↦ inr done.flushed
+]
 
 pub returns-clause-tail_flushed : goal.returns-clause-tail_flushed
 returns-clause-tail_flushed g c = elim c.write_in_place.ensures.tail_first [
-    | inl same ↦ inl same
-    | inr out ↦ inr out.flushed
-  ]
+  | inl same ↦ inl same
+  | inr out ↦ inr out.flushed
+]
 
 pub returns-clause-flushed_first : goal.returns-clause-flushed_first
 returns-clause-flushed_first g c = inr c.in_ok-write_in_place.ensures.log_done.flushed
