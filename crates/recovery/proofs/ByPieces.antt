@@ -5,7 +5,7 @@ use Rattle.std.specs.Prelude.{IfSome}
 use Rattle.std.specs.Io.KnownBytes.{Keeps}
 use Rattle.std.proofs.KnownBytes.{Keeps-refl}
 use Rattle.device.specs.declared.traits.Sink.{Ghosts as Sink}
-use Rattle.device.specs.Reread.{EndsBy, IsReadThrough}
+use Rattle.device.specs.Reread.{EndsBy, ReachesTo}
 use Rattle.page.specs.declared.fault.Fault.{Fault}
 use Rattle.page.specs.declared.fault.Fault.TheVariants.{NoResource, ReadLog, ReadStore, WriteLog, WriteStore, BadWorkers, BadParting}
 use Rattle.page.specs.declared.page.Page.{Page}
@@ -24,7 +24,7 @@ use Rattle.recovery.specs.Recovery.{Recovers, RecoveryCause}
 use Rattle.recovery.specs.Devices.{FailsOnlyWith, IsFaultOf, SourcesGave, DeviceCause, IsResourceOrDevice}
 use Rattle.recovery.specs.TailFile.{tail_text, sum_of, end_of}
 use Rattle.recovery.specs.InPlace.{IsLeftIn, Prepares, tail_of, LeavesInPlace}
-use Rattle.recovery.specs.ByPieces.{IsOfLog, OnceLogRead, LogComesFirst, fault_of, ReadingCause, MeasuresLog, continued_log}
+use Rattle.recovery.specs.ByPieces.{IsOfLog, IsLogRead, OnceLogRead, LogComesFirst, fault_of, ReadingCause, MeasuresLog, continued_log}
 use Rattle.recovery.proofs.Bytes.{input_cause}
 use Rattle.recovery.proofs.Delivered.{device_cause, is_resource}
 use Rattle.recovery.proofs.InPlace.{same_tail}
@@ -33,12 +33,6 @@ use Rattle.recovery.specs.declared.tail_file.TheConstants.{END_BYTES}
 -- WHAT IS KNOWN OF A DEVICE
 pub at_some : {A : Type 0} (P : A → Type 0) (o : Option A) (x : A) → o ≡ Some x → IfSome o P → P x
 at_some P o x e h = subst (λ y. IfSome y P) e h
-
--- the bytes end where a reading of them ended
-pub ends_short : (old now : Option (List ℕ)) (n : ℕ) → Keeps old now → n < 2 ^ 64 → EndsBy now n → IfSome old (λ held. length held < 2 ^ 64)
-ends_short None now n same few end = tt
-ends_short (Some xs) None n same few end = absurd same
-ends_short (Some xs) (Some ys) n same few end = omega (arith, few, end, ap (λ (t : List ℕ). length t) same)
 
 -- the end of what is kept, read again
 pub end_again : (kept offset : ℕ) (text : List ℕ) → offset ≡ kept - END_BYTES → kept ≤ length text → take (kept - offset) (drop offset text) ≡ end_of (take kept text)
@@ -50,9 +44,6 @@ end_again kept offset text at within =
 -- FAILURES of a log's device
 pub failed : {U : Type 0} (s : Result U Fault) (a b c : ℕ) → s ≡ Err ReadLog → b ≡ a → c ≡ b + 1 → FailsOnlyWith ReadLog s a c
 failed s a b c is before after = record { blamed = λ _. omega (arith, before, after); innocent = λ other. absurd (other is) }
-
-pub memory_fails : {U : Type 0} (s : Result U Fault) (a c : ℕ) → s ≡ Err NoResource → c ≡ a → FailsOnlyWith ReadLog s a c
-memory_fails s a c is same = record { blamed = λ blamed. absurd (let other : s ≡ Err ReadLog = blamed in cc); innocent = λ _. same }
 
 pub ok_is_no_fault : {U : Type 0} (x : U) (e : Fault) → Ok x ≡ Err e → ⊥
 ok_is_no_fault x e is = absurd cc
@@ -109,16 +100,27 @@ comes_first log_read store_read BadParting h = tt
 comes_first log_read store_read ReadStore h = inl h
 comes_first log_read store_read e h = h
 
--- all of a device is read that holds what it held
-pub read_before : (before now : Option (List ℕ)) (m : ℕ) → Keeps before now → IsReadThrough now m → IsReadThrough before m
-read_before None now m kept read = tt
-read_before (Some held) None m kept read = absurd kept
-read_before (Some held) (Some same) m kept read = omega (arith, read, ap (λ (bytes : List ℕ). length bytes) kept)
+-- all of a log is read if its device held the same before
+pub log_read : (before now : Option (List ℕ)) (m : ℕ) → Keeps before now → IsLogRead now m → IsLogRead before m
+log_read None now m kept read = tt
+log_read (Some held) None m kept read = absurd kept
+log_read (Some held) (Some same) m kept (inl all) = inl (omega (arith, all, ap (λ (bytes : List ℕ). length bytes) kept))
+log_read (Some held) (Some same) m kept (inr most) = inr most
 
-pub once_read : (before now : Option (List ℕ)) (m : ℕ) (e : Fault) → Keeps before now → OnceLogRead (IsReadThrough now m) e → OnceLogRead (IsReadThrough before m) e
+pub once_read : (before now : Option (List ℕ)) (m : ℕ) (e : Fault) → Keeps before now → OnceLogRead (IsLogRead now m) e → OnceLogRead (IsLogRead before m) e
 once_read before now m NoResource kept h = tt
 once_read before now m ReadLog kept h = tt
-once_read before now m e kept h = read_before before now m kept h
+once_read before now m e kept h = log_read before now m kept h
+
+-- by the last bytes, or by as many as no device holds
+pub log_read_all : (before now : Option (List ℕ)) (m offset : ℕ) → Keeps before now → ReachesTo before offset m → EndsBy now offset → IsLogRead before m
+log_read_all None now m offset kept far end = tt
+log_read_all (Some held) None m offset kept far end = absurd kept
+log_read_all (Some held) (Some same) m offset kept far end = inl (omega (arith, far, end, ap (λ (bytes : List ℕ). length bytes) kept))
+
+pub log_read_most : (text : Option (List ℕ)) (m offset : ℕ) → 2 ^ 63 ≤ offset → ReachesTo text offset m → IsLogRead text m
+log_read_most None m offset many far = tt
+log_read_most (Some held) m offset many far = inr (omega (arith, many, far))
 
 -- A STORE with other pages
 pub store_same : (before : StoreContent) (m : ℕ) (after items : List Page) → before.master ≡ m → after ≡ items → store_with before after ≡ record { master = m; pages = items }

@@ -1,5 +1,5 @@
 -- A log that is copied piece by piece: what is written of it, and what a fault leaves.
-use Rattle.std.proofs.Common.{ℕ, ◌≡◌, ◌+◌, ◌≤◌, List, ◌++◌, take, drop, Option, Some, Err, ap, ap₂, sym, subst, ◌∙◌, inl, inr, arith, take-take, take-append-drop}
+use Rattle.std.proofs.Common.{ℕ, ◌≡◌, ◌+◌, ◌≤◌, ◌⊎◌, List, ◌++◌, take, drop, Option, Some, Err, ap, ap₂, sym, subst, ◌∙◌, inl, inr, arith, take-take, take-append-drop}
 use Rattle.std.proofs.KnownBytes.{Appends-trans, Keeps-refl}
 use Rattle.std.proofs.lemmas.List.{drop-take}
 use Rattle.std.specs.Io.KnownBytes.{Appends}
@@ -13,7 +13,7 @@ use Rattle.device.specs.Transfer.{TookBeginning}
 use Rattle.restart.specs.declared.options.Options.{Options}
 use Rattle.recovery.specs.declared.by_pieces.Continuation.{Continuation}
 use Rattle.recovery.specs.Recovery.{Recovers, AreLawful}
-use Rattle.recovery.specs.Devices.{FailsOnlyWith, SourcesGave, Makes, DeviceCause, IsResourceOrDevice}
+use Rattle.recovery.specs.Devices.{FailsOnlyWith, IsFaultOf, SourcesGave, Makes, DeviceCause, IsResourceOrDevice}
 use Rattle.recovery.specs.ByPieces.{IsOfLog, LogComesFirst, MeasuresLog, continued_log}
 use Rattle.recovery.specs.Copying.{LeavesCopied, IsOutCopied, LeavesCutCopied}
 use Rattle.recovery.proofs.Delivered.{behind_front, makes}
@@ -99,6 +99,16 @@ nothing_copied log a store b log_left store_left ReadStore h = absurd h
 nothing_copied log a store b log_left store_left WriteLog h = absurd h
 nothing_copied log a store b log_left store_left WriteStore h = absurd h
 nothing_copied log a store b log_left store_left e h = (Keeps-refl (log.taken a), Keeps-refl (store.taken b))
+
+-- nor does one of the first reading of the store
+pub nothing_read : {L S : Type 0} (log : Sink L) (a : L) (store : Sink S) (b : S) (log_left store_left : Option (List ℕ)) (e : Fault) → (e ≡ ReadLog) ⊎ IsFaultOf ReadStore e
+    → IsOutCopied log a a store b b log_left store_left e
+nothing_read log a store b log_left store_left e (inl failed) =
+    subst (IsOutCopied log a a store b b log_left store_left) (sym failed) (inl (Keeps-refl (log.taken a), Keeps-refl (store.taken b)))
+nothing_read log a store b log_left store_left e (inr (inl none)) =
+    subst (IsOutCopied log a a store b b log_left store_left) (sym none) (Keeps-refl (log.taken a), Keeps-refl (store.taken b))
+nothing_read log a store b log_left store_left e (inr (inr own)) =
+    subst (IsOutCopied log a a store b b log_left store_left) (sym own) (inl (Keeps-refl (log.taken a), Keeps-refl (store.taken b)))
 
 -- FAILURES of a device are those while the log and the store are written, if it had none before
 pub failed_since : {T U : Type 0} (own e : Fault) (a b c : ℕ) → b ≡ a → FailsOnlyWith {T = T} own (Err e) b c → FailsOnlyWith {T = U} own (Err e) a c

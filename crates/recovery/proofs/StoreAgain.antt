@@ -1,7 +1,9 @@
 -- A store that is read in pieces, and once more while the new one is written.
-use Rattle.std.proofs.Common.{◌≡◌, ◌<◌, ◌-◌, ◌++◌, ◌⊎◌, ℕ, List, All, Option, Some, None, Result, Ok, Err, length, get_or, map, take, refl, sym, ap, subst, ◌∙◌, arith, inl, inr}
+use Rattle.std.proofs.Common.{◌≡◌, ◌≤◌, ◌<◌, ◌-◌, ◌++◌, ◌⊎◌, ℕ, List, All, Option, Some, None, Result, Ok, Err, length, get_or, map, take, refl, sym, ap, subst, ◌∙◌, arith, inl, inr}
 use Rattle.std.proofs.lemmas.List.{length-map, length-replicate, get_or-map}
 use Rattle.std.specs.Prelude.{OnErr, IfErr}
+use Rattle.std.specs.Io.KnownBytes.{Keeps}
+use Rattle.device.specs.Reread.{IsReadThrough, ReachesTo, ReachJoins}
 use Rattle.device.specs.declared.traits.Sink.{Ghosts as Sink}
 use Rattle.page.specs.declared.fault.Fault.{Fault}
 use Rattle.page.specs.declared.fault.Fault.TheVariants.{ReadLog, ReadStore, WriteLog, WriteStore}
@@ -59,6 +61,14 @@ decoded_lsns held found store is (text, gave, decodes) =
 
 pub both_give : (log store : List ℕ) → SourcesGave (Some log) (Some store) log store
 both_give log store = record { log_read = refl; store_read = refl }
+
+-- its header is read from the beginning on, and then the rest
+pub all_read : (before now : Option (List ℕ)) (a m n offset count : ℕ) → Keeps before now → ReachJoins before a m 0 count → offset ≤ count
+    → (ReachesTo now offset m → IsReadThrough now n) → IsReadThrough before n
+all_read None now a m n offset count kept joins enough rest = tt
+all_read (Some held) None a m n offset count kept joins enough rest = absurd kept
+all_read (Some held) (Some same) a m n offset count kept joins enough rest =
+    omega (arith, ap (λ (bytes : List ℕ). length bytes) kept, rest (omega (arith, joins (omega arith), enough)))
 
 -- A FAULT when the store is read once more leaves what a fault of the store's sink leaves
 module _ {L S : Type 0} (log : Sink L) (a b : L) (store : Sink S) (c d : S) where

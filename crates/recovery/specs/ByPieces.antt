@@ -1,5 +1,5 @@
 -- What a recovery makes of a log and a store that it reads in pieces, and its errors (own).
-use Rattle.std.specs.Prelude.{◌≡◌, ◌⊎◌, ◌+◌, ◌-◌, ◌++◌, ℕ, List, Option, Some, drop, length, take, Result, Err, MatchResult, ⊤}
+use Rattle.std.specs.Prelude.{◌≡◌, ◌≤◌, ◌^◌, ◌⊎◌, ◌+◌, ◌-◌, ◌++◌, ℕ, List, Option, Some, IfSome, drop, length, take, Result, Err, MatchResult, ⊤}
 use Rattle.page.specs.declared.fault.Fault.{Fault}
 use Rattle.page.specs.declared.fault.Fault.TheVariants.{NoResource, ReadLog, ReadStore, WriteLog, WriteStore, BadWorkers, BadParting}
 use Rattle.page.specs.declared.page.Page.{Page}
@@ -54,6 +54,10 @@ pub record StoreFails {T : Type 0} (answer : Result T Fault) (before after : ℕ
   pub blamed : answer ≡ Err ReadStore → after ≡ before + 1
   pub log_blamed : answer ≡ Err ReadLog → (after ≡ before) ⊎ (after ≡ before + 1)
   pub innocent : (answer ≡ Err ReadStore → ⊥) → (answer ≡ Err ReadLog → ⊥) → after ≡ before
+
+-- the bytes of a log's device are read to the end, or 2 ^ 63 of them, which no device holds
+abbrev pub IsLogRead : (text : Option (List ℕ)) → (read_to : ℕ) → Type 0
+IsLogRead text read_to = IfSome text (λ held. (length held ≤ read_to) ⊎ (2 ^ 63 ≤ read_to))
 
 -- THE LOG'S DEVICE comes first: this is true of a fault that is returned only after that was read to its end, which is any but a lack of
 -- memory and its own

@@ -112,8 +112,8 @@ module _ {L S : Type 0} (log : Sink L) (log_old log_new : L) (store : Sink S) (s
 
   -- a fault of the store's source, when it is read again, leaves what a fault of the store's sink leaves
   abbrev pub LeavesReread : (kept : ℕ) (frames new_store : List ℕ) → Fault → Type 0
-  LeavesReread kept frames new_store ReadStore = LeavesInPlace log log_old log_new store store_old store_new kept frames new_store WriteStore
-  LeavesReread kept frames new_store e = LeavesInPlace log log_old log_new store store_old store_new kept frames new_store e
+  LeavesReread kept frames new_store ReadStore = LeavesInPlace kept frames new_store WriteStore
+  LeavesReread kept frames new_store e = LeavesInPlace kept frames new_store e
 
   -- by the file of a tail, if it is known that the store's source holds a store that the changes are of
   abbrev pub LeavesChanged : (held : Option (List ℕ)) → TailFile → (master : ℕ) → List PageChange → Fault → Type 0
@@ -123,9 +123,9 @@ module _ {L S : Type 0} (log : Sink L) (log_old log_new : L) (store : Sink S) (s
   -- after any fault: after a fault of the store's source nothing is changed, or all is left that a fault of the store's sink leaves
   abbrev pub IsLeftReread : (log_left store_left : Option (List ℕ)) → Fault → Type 0
   IsLeftReread log_left store_left ReadStore =
-      IsLeftIn log log_old log_new store store_old store_new log_left store_left ReadStore
-      ⊎ IsLeftIn log log_old log_new store store_old store_new log_left store_left WriteStore
-  IsLeftReread log_left store_left e = IsLeftIn log log_old log_new store store_old store_new log_left store_left e
+      IsLeftIn log_left store_left ReadStore
+      ⊎ IsLeftIn log_left store_left WriteStore
+  IsLeftReread log_left store_left e = IsLeftIn log_left store_left e
 
 -- LAWFUL INPUT, and what the log's device holds in the end
 module _ {S : Type 0} (log_after : Option (List ℕ)) (store : Sink S) (old new : S) where

@@ -3,11 +3,10 @@
 
 ghost use Rattle.std.specs.Prelude.{◌≡◌, length, IfOk, IfErr, OnOk};
 ghost use Rattle.std.specs.Io.KnownBytes.{Keeps};
-ghost use Rattle.device.specs.Reread.{IsReadThrough};
 ghost use Rattle.page.specs.declared.fault.Fault.TheVariants.{ReadLog};
 ghost use Rattle.page.specs.Lsns.{AreLsnsOf, SpellsLsns};
 ghost use Rattle.changes.specs.Numbered.{StayNumbered};
-ghost use Rattle.recovery.specs.ByPieces.{AreFew, Continues, ContinuesLawful, HasSums, IfMeasured, IfRead, IsCauseOf, IsCauseOn, IsFileOf, IsMadeLawful, IsMadeOf, IsMadeRead, IsOfLog, MeasuresLog, OnceLogRead};
+ghost use Rattle.recovery.specs.ByPieces.{AreFew, Continues, ContinuesLawful, HasSums, IfMeasured, IfRead, IsCauseOf, IsCauseOn, IsFileOf, IsMadeLawful, IsMadeOf, IsMadeRead, IsOfLog, MeasuresLog, OnceLogRead, IsLogRead};
 ghost use Rattle.recovery.specs.declared.log_again.TheConstants.{ROOM};
 ghost use Rattle.recovery.specs.Calls.{Blames};
 ghost use Rattle.recovery.specs.StoreChanges.{DecodesLsns};
@@ -92,7 +91,7 @@ pub fn continue_on<L: Reread, P: Pages>(
     ensures fault { IfErr result (IsCauseOn P.Pages (L.text log.old) master pages.old) }
     ensures same { OnOk result (Keeps (L.text log.old) (L.text log.new)) }
     ensures read { IfErr result
-        (OnceLogRead (IsReadThrough (L.text log.old) (L.read_to log.new))) }
+        (OnceLogRead (IsLogRead (L.text log.old) (L.read_to log.new))) }
     ensures named { IfErr result IsOfLog }
     ensures cause { Blames ReadLog L.failures log.old log.new result }
 {
@@ -142,7 +141,7 @@ fn make_from<L: Reread>(
     ensures fault { IfErr result (IsCauseOf (L.text log.old) (λ text. SpellsLsns text store)) }
     ensures same { OnOk result (Keeps (L.text log.old) (L.text log.new)) }
     ensures read { IfErr result
-        (OnceLogRead (IsReadThrough (L.text log.old) (L.read_to log.new))) }
+        (OnceLogRead (IsLogRead (L.text log.old) (L.read_to log.new))) }
     ensures named { IfErr result IsOfLog }
     ensures cause { Blames ReadLog L.failures log.old log.new result }
 {
@@ -174,7 +173,7 @@ pub fn make<L: Reread>(
     ensures fault { IfErr result (IsCauseOf (L.text log.old) (λ text. DecodesLsns text decoded)) }
     ensures same { OnOk result (Keeps (L.text log.old) (L.text log.new)) }
     ensures read { IfErr result
-        (OnceLogRead (IsReadThrough (L.text log.old) (L.read_to log.new))) }
+        (OnceLogRead (IsLogRead (L.text log.old) (L.read_to log.new))) }
     ensures named { IfErr result (λ e. IfRead decoded (IsOfLog e)) }
     ensures cause { IfRead decoded (Blames ReadLog L.failures log.old log.new result) }
 {

@@ -10,7 +10,7 @@ ghost use Rattle.device.specs.Failures.{Counts};
 ghost use Rattle.device.specs.Reread.{IsReadThrough, ReachGrows};
 ghost use Rattle.restart.specs.Options.{OptionsFault};
 ghost use Rattle.recovery.specs.Devices.{AreOut, Completes, Delivers, ForCut, ForLawful, NewLogIsOut, OnceRead, UnlessDevice, Writes};
-ghost use Rattle.recovery.specs.ByPieces.{ForBytes, ForTexts, LogComesFirst, StoreFails, TextsCause};
+ghost use Rattle.recovery.specs.ByPieces.{ForBytes, ForTexts, LogComesFirst, IsLogRead, StoreFails, TextsCause};
 ghost use Rattle.recovery.specs.Copying.{Begins, BothAreOut, CopyIsOut, IsCopyFault, IsOfCopying, IsOutCopied, LeavesCopy, LeavesCutCopied, StoreIsOut, TookPart, TookPiece};
 ghost use Rattle.recovery.specs.declared.log_again.TheConstants.{ROOM};
 ghost use Rattle.recovery.specs.declared.store_pieces.TheConstants.{PIECE};
@@ -250,7 +250,7 @@ pub fn recover_copying<LR: Reread, SR: Reread, LW: Sink, SW: Sink>(
     ensures read_to_end { IfErr result
         (OnceRead (IsReadThrough (SR.text store.old) (SR.read_to store.new))) }
     ensures log_read { IfErr result (ForTexts (LR.text log.old) (SR.text store.old) (λ log_held
-        store_held. LogComesFirst (IsReadThrough log_held (LR.read_to log.new))
+        store_held. LogComesFirst (IsLogRead log_held (LR.read_to log.new))
         (IsReadThrough store_held (SR.read_to store.new)))) }
 
     // A fault names a device if that device failed, and only then. If both sources failed, it names

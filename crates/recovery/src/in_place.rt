@@ -9,7 +9,7 @@ ghost use Rattle.page.specs.declared.profile.TheConstants.{PAGES};
 ghost use Rattle.device.specs.Failures.{Counts};
 ghost use Rattle.device.specs.Reread.{IsReadThrough, ReachGrows};
 ghost use Rattle.restart.specs.Options.{OptionsFault};
-ghost use Rattle.recovery.specs.ByPieces.{ForBytes, ForTexts, LogComesFirst, StoreFails, TextsCause};
+ghost use Rattle.recovery.specs.ByPieces.{ForBytes, ForTexts, LogComesFirst, IsLogRead, StoreFails, TextsCause};
 ghost use Rattle.recovery.specs.Calls.{Blames, BlamesSinks, CountsSinks, IsStored};
 ghost use Rattle.recovery.specs.Devices.{AreOut, OnceRead, UnlessDevice};
 ghost use Rattle.recovery.specs.InPlace.{Completed, CompletesInPlace, ContinuesBy, DeliversInPlace, ForCutHeld, ForLawfulHeld, HoldsCutOf, IsContinued, IsLeft, IsLeftReread, IsLogFlushed, LeavesBy, LeavesChanged, LogIsContinued, TailIsOut};
@@ -194,7 +194,7 @@ pub fn recover_in_place<LR: Reread, SR: Reread, T: Sink, LW: Continue, SW: Sink>
     ensures read_to_end { IfErr result
         (OnceRead (IsReadThrough (SR.text store.old) (SR.read_to store.new))) }
     ensures log_read { IfErr result (ForTexts (LR.text log.old) (SR.text store.old) (λ log_held
-        store_held. LogComesFirst (IsReadThrough log_held (LR.read_to log.new))
+        store_held. LogComesFirst (IsLogRead log_held (LR.read_to log.new))
         (IsReadThrough store_held (SR.read_to store.new)))) }
 
     // A fault names a device if that device failed, and only then. If both sources failed, it names

@@ -7,7 +7,7 @@ ghost use Rattle.device.specs.Reread.{IsReadThrough};
 ghost use Rattle.page.specs.declared.fault.Fault.TheVariants.{NoResource, ReadLog, ReadStore};
 ghost use Rattle.recovery.specs.Devices.{Gave, IsFaultOf};
 ghost use Rattle.recovery.specs.TailFile.{IsEndSum, IsSumOn, sum_of};
-ghost use Rattle.recovery.specs.ByPieces.{IsOfLog, OnceLogRead, fault_of, StoreFails, IsLog, LogCause};
+ghost use Rattle.recovery.specs.ByPieces.{IsOfLog, OnceLogRead, IsLogRead, fault_of, StoreFails, IsLog, LogCause};
 ghost use Rattle.recovery.specs.declared.log_again.TheConstants.{ROOM};
 ghost use Rattle.recovery.specs.declared.store_pieces.TheConstants.{PIECE};
 ghost use Rattle.recovery.specs.Calls.{Blames, FailsMore, ForHeld, ForKept, ForPiece, ForPieceHeld, ForRest};
@@ -62,14 +62,14 @@ pub fn fault_of(stopped: PassFault) -> Fault
 }
 
 /// Reads a log's device from its beginning to its end without looking at the bytes: if it fails,
-/// that is found before anything else.
+/// that is found before anything else. The only error is `ReadLog`. No device holds 2^63 bytes; of
+/// one that did, as many are read.
 pub fn read_through<L: Reread>(log: &mut L, room: &mut [u8]) -> Result<(), Fault>
     requires some { 0 < length room.old }
     requires few { length room.old ≤ ROOM }
-    ensures end { OnOk result (IfSome (L.text log.old) (λ held. length held < 2 ^ 64)) }
-    ensures read { OnOk result (IsReadThrough (L.text log.old) (L.read_to log.new)) }
+    ensures read { OnOk result (IsLogRead (L.text log.old) (L.read_to log.new)) }
     ensures same { Keeps (L.text log.old) (L.text log.new) }
-    ensures fault { IfErr result (IsFaultOf ReadLog) }
+    ensures fault { IfErr result (λ e. e ≡ ReadLog) }
     ensures cause { Blames ReadLog L.failures log.old log.new result }
 {
     let mut offset: u64 = 0;
@@ -80,18 +80,16 @@ pub fn read_through<L: Reread>(log: &mut L, room: &mut [u8]) -> Result<(), Fault
         }
         offset += room.len() as u64;
     }
-    // No device holds this many bytes.
-    Err(Fault::NoResource)
+    Ok(())
 }
 
 /// The fault to return for this one. A failure of a log's device comes before all other faults, so
 /// the device is read to its end: `ReadLog` if it fails there, otherwise the fault as it was.
-/// `NoResource` if there are more bytes than any log has.
 pub fn first_fault<L: Reread>(log: &mut L, fault: Fault, room: &mut [u8]) -> Fault
     requires some { 0 < length room.old }
     requires few { length room.old ≤ ROOM }
-    ensures fault { IsFaultOf ReadLog result ⊎ (result ≡ fault) }
-    ensures read { OnceLogRead (IsReadThrough (L.text log.old) (L.read_to log.new)) result }
+    ensures fault { (result ≡ ReadLog) ⊎ (result ≡ fault) }
+    ensures read { OnceLogRead (IsLogRead (L.text log.old) (L.read_to log.new)) result }
     ensures unread { fault ≡ ReadLog → log.new ≡ log.old }
     ensures blamed { fault ≢ ReadLog → result ≡ ReadLog
         → L.failures log.new ≡ L.failures log.old + 1 }
@@ -110,8 +108,8 @@ pub fn first_fault<L: Reread>(log: &mut L, fault: Fault, room: &mut [u8]) -> Fau
 /// is read to its end, otherwise that of the pass.
 pub fn fault_after<L: Reread>(log: &mut L, stopped: PassFault, room: &mut [u8]) -> Fault
     requires { length room.old ≡ ROOM }
-    ensures fault { IsFaultOf ReadLog result ⊎ (result ≡ fault_of stopped) }
-    ensures read { OnceLogRead (IsReadThrough (L.text log.old) (L.read_to log.new)) result }
+    ensures fault { (result ≡ ReadLog) ⊎ (result ≡ fault_of stopped) }
+    ensures read { OnceLogRead (IsLogRead (L.text log.old) (L.read_to log.new)) result }
     // The pass may have counted a failure already.
     ensures blamed { result ≡ ReadLog → FailsMore L.failures log.old log.new stopped 1 }
     ensures innocent { result ≢ ReadLog → FailsMore L.failures log.old log.new stopped 0 }
@@ -134,7 +132,7 @@ pub fn read_store_whole<L: Reread, S: Source>(
     ensures end { OnOk result (IsAtEnd (S.left store.new)) }
     ensures log_unread { OnOk result (log.new ≡ log.old) }
     ensures log_read { IfErr result
-        (OnceLogRead (IsReadThrough (L.text log.old) (L.read_to log.new))) }
+        (OnceLogRead (IsLogRead (L.text log.old) (L.read_to log.new))) }
     ensures fault { IfErr result (λ e. (e ≡ ReadLog) ⊎ IsFaultOf ReadStore e) }
     ensures log_source { Blames ReadLog L.failures log.old log.new result }
     ensures store_source { StoreFails result (S.failures store.old) (S.failures store.new) }
@@ -162,7 +160,7 @@ pub fn read_store_first<L: Reread, R: Reread>(
     ensures kept { OnOk result (Keeps (R.text store.old) (R.text store.new)) }
     ensures log_unread { OnOk result (log.new ≡ log.old) }
     ensures log_read { IfErr result
-        (OnceLogRead (IsReadThrough (L.text log.old) (L.read_to log.new))) }
+        (OnceLogRead (IsLogRead (L.text log.old) (L.read_to log.new))) }
     ensures fault { IfErr result (λ e. (e ≡ ReadLog) ⊎ IsFaultOf ReadStore e) }
     ensures log_source { Blames ReadLog L.failures log.old log.new result }
     ensures store_source { StoreFails result (R.failures store.old) (R.failures store.new) }
@@ -179,7 +177,7 @@ pub fn check_log<L: Reread>(alloc: Global, log: &mut L, room: &mut [u8]) -> Resu
     ensures reads { OnOk result (ForSome (L.text log.old) IsLog) }
     ensures same { OnOk result (Keeps (L.text log.old) (L.text log.new)) }
     ensures read { IfErr result
-        (OnceLogRead (IsReadThrough (L.text log.old) (L.read_to log.new))) }
+        (OnceLogRead (IsLogRead (L.text log.old) (L.read_to log.new))) }
     ensures fault { IfErr result (LogCause (L.text log.old)) }
     ensures named { IfErr result IsOfLog }
     ensures cause { Blames ReadLog L.failures log.old log.new result }

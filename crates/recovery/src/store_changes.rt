@@ -38,10 +38,10 @@ fn read_images<R: Reread>(
 ) -> Result<DecodedLsns, Fault>
     requires room { length room.old ≡ PIECE }
     requires header { length reader ≡ STORE_HEADER_BYTES }
-    requires begun { ReachesTo (R.text source.old) STORE_HEADER_BYTES (R.read_to source.old) }
     ensures read { IfOk result (AreLsnsBehind reader (R.text source.old)) }
     ensures same { Keeps (R.text source.old) (R.text source.new) }
-    ensures end { OnOk result (IsReadThrough (R.text source.old) (R.read_to source.new)) }
+    ensures end { OnOk result (ReachesTo (R.text source.old) STORE_HEADER_BYTES
+        (R.read_to source.old) → IsReadThrough (R.text source.old) (R.read_to source.new)) }
     ensures fault { IfErr result (IsFaultOf ReadStore) }
     ensures cause { Blames ReadStore R.failures source.old source.new result }
 {

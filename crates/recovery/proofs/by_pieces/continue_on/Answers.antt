@@ -6,7 +6,7 @@ use Rattle.page.specs.declared.fault.Fault.TheVariants.{ReadLog}
 use Rattle.passes.specs.InPieces.{outcome_on}
 use Rattle.undo.specs.declared.appended.Appended.{Appended}
 use Rattle.restart.specs.Restart.{store_with}
-use Rattle.recovery.specs.Recovery.{appended_frames, RecoveryCause}
+use Rattle.recovery.specs.Recovery.{appended_frames}
 use Rattle.recovery.specs.Devices.{IsFaultOf}
 use Rattle.recovery.specs.ByPieces.{ReadingCause}
 use Rattle.recovery.proofs.ByPieces.{once_read, resource_of_log, reading_cause}
@@ -16,17 +16,14 @@ use Rattle.recovery.proofs.by_pieces.continue_on.Goals as goal
 pub returns-in-Err-clause-lawful : goal.returns-in-Err-clause-lawful
 returns-in-Err-clause-lawful g c = λ base text read torn is reads before stored master numbered shows lawful.
     elim c.fault_after.ensures.fault [
-      | inl device ↦ device
+      | inl device ↦ inr device
       | inr stopped ↦ subst (IsFaultOf ReadLog) (sym stopped) (resource_of_log c.in-Err.stopped (c.in-Err.ensures.lawful text read torn base is reads before stored master numbered shows lawful))
     ]
 
 pub returns-in-Err-clause-fault : goal.returns-in-Err-clause-fault
 returns-in-Err-clause-fault g c = λ text is before stored master numbered shows store options spells range.
     elim c.fault_after.ensures.fault [
-      | inl device ↦ elim device [
-        | inl none ↦ inr (subst (RecoveryCause text store options) (sym none) tt)
-        | inr failed ↦ inl failed
-      ]
+      | inl device ↦ inl device
       | inr stopped ↦
           subst (ReadingCause text store options) (sym stopped)
           (reading_cause text store options before c.in-Err.stopped spells range (c.in-Err.ensures.fault text is before stored master numbered shows))

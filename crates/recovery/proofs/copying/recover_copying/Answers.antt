@@ -6,10 +6,10 @@ use Rattle.wal.specs.Reads.{Reads}
 use Rattle.log_laws.specs.Tail.{with_tail}
 use Rattle.device.specs.Reread.{IsReadThrough}
 use Rattle.device.proofs.Reach.{read_still}
-use Rattle.recovery.specs.ByPieces.{OnceLogRead, store_made}
+use Rattle.recovery.specs.ByPieces.{IsLogRead, OnceLogRead, store_made}
 use Rattle.recovery.specs.Recovery.{Recovered}
 use Rattle.recovery.proofs.ByPieces.{of_log, by_device, comes_first, ok_is_no_fault}
-use Rattle.recovery.proofs.Copies.{copy_is, makes_copy, copied_resource, copied_cause, copied_after, copied_cut, copied_out, nothing_copied, failed_since}
+use Rattle.recovery.proofs.Copies.{copy_is, makes_copy, copied_resource, copied_cause, copied_after, copied_cut, copied_out, nothing_copied, nothing_read, failed_since}
 use Rattle.recovery.proofs.Delivered.{cut_lawful, completed}
 use Rattle.recovery.proofs.StoreAgain.{decoded_lsns, both_give, store_since, store_none, again_at}
 use Rattle.recovery.proofs.copying.recover_copying.Goals as goal
@@ -235,12 +235,19 @@ returns-clause-log_out_first g c = λ log_text store_bytes is tells.
     let made = makes_copy (Some store_bytes) log_text store_bytes x.log (store_made x after) (both_give log_text store_bytes) measured recovers in
     inr (made, c.in_ok-write_copied.ensures.log_out log_text later within)
 
+pub returns-in_err-decoded-clause-out : goal.returns-in_err-decoded-clause-out
+returns-in_err-decoded-clause-out g c =
+    let exit = err_from_is_err_and c.from_residual-in_err-decoded.result c.from_residual-in_err-decoded.ensures.1 in
+    rw (exit.1, exit.2)
+    (λ log_text store_bytes is tells.
+    nothing_read g.LW.Sink c.args.out_log.now g.SW.Sink c.args.out_store.now (Some log_text) (Some store_bytes) c.in_err-decoded.field-0.0 c.in_err-decoded.ensures.fault)
+
 pub returns-in_err-decoded-clause-log_read : goal.returns-in_err-decoded-clause-log_read
 returns-in_err-decoded-clause-log_read g c =
     let exit = err_from_is_err_and c.from_residual-in_err-decoded.result c.from_residual-in_err-decoded.ensures.1 in
     rw (exit.1, exit.2) (λ log_text store_bytes is tells.
     comes_first _ _ c.in_err-decoded.field-0.0
-    (subst (λ held. OnceLogRead (IsReadThrough held (g.LR.Reread.read_to c.read_store_first.new.log)) c.in_err-decoded.field-0.0) is c.in_err-decoded.ensures.log_read))
+    (subst (λ held. OnceLogRead (IsLogRead held (g.LR.Reread.read_to c.read_store_first.new.log)) c.in_err-decoded.field-0.0) is c.in_err-decoded.ensures.log_read))
 
 pub returns-in_err-made-clause-read_to_end : goal.returns-in_err-made-clause-read_to_end
 returns-in_err-made-clause-read_to_end g c =
@@ -253,7 +260,7 @@ returns-in_err-made-clause-log_read g c =
     rw (exit.1, exit.2) (λ log_text store_bytes is tells.
     let still = ap g.LR.Reread.text c.in_ok-decoded.ensures.log_unread ∙ is in
     comes_first _ _ c.in_err-made.field-0.0
-    (subst (λ held. OnceLogRead (IsReadThrough held (g.LR.Reread.read_to c.make.new.log)) c.in_err-made.field-0.0) still c.in_err-made.ensures.read))
+    (subst (λ held. OnceLogRead (IsLogRead held (g.LR.Reread.read_to c.make.new.log)) c.in_err-made.field-0.0) still c.in_err-made.ensures.read))
 
 pub returns-in_err-write_copied-clause-read_first : goal.returns-in_err-write_copied-clause-read_first
 returns-in_err-write_copied-clause-read_first g c = inr (read_still (g.SR.Reread.text c.args.store.now) (g.SR.Reread.text c.read_store_first.new.store) _ _ c.in_ok-decoded.ensures.kept c.in_ok-decoded.ensures.end c.write_copied.ensures.grows)

@@ -5,7 +5,7 @@ use Rattle.passes.proofs.Reached.{still_told}
 use Rattle.recovery.specs.InPlace.{Prepares}
 use Rattle.device.specs.Reread.{IsReadThrough}
 use Rattle.device.proofs.Reach.{read_still}
-use Rattle.recovery.specs.ByPieces.{LogComesFirst, OnceLogRead, continued_log, store_made}
+use Rattle.recovery.specs.ByPieces.{IsLogRead, LogComesFirst, OnceLogRead, continued_log, store_made}
 use Rattle.recovery.proofs.Delivered.{cut_lawful}
 use Rattle.recovery.proofs.InPlace.{on_err, holds_more, settled_in_place, has_tail, continued_as}
 use Rattle.recovery.proofs.ByPieces.{of_log, by_device, comes_first, prepares, tail_made, other_failed, none_failed, ok_is_no_fault}
@@ -296,7 +296,7 @@ returns-in_err-decoded-clause-log_read g c =
     let exit = err_from_is_err_and c.from_residual-in_err-decoded.result c.from_residual-in_err-decoded.ensures.1 in
     rw (exit.1, exit.2) (λ log_text store_bytes is tells.
     comes_first _ _ c.in_err-decoded.field-0.0
-    (subst (λ held. OnceLogRead (IsReadThrough held (g.LR.Reread.read_to c.read_store_first.new.log)) c.in_err-decoded.field-0.0) is c.in_err-decoded.ensures.log_read))
+    (subst (λ held. OnceLogRead (IsLogRead held (g.LR.Reread.read_to c.read_store_first.new.log)) c.in_err-decoded.field-0.0) is c.in_err-decoded.ensures.log_read))
 
 pub returns-in_err-made-clause-read_to_end : goal.returns-in_err-made-clause-read_to_end
 returns-in_err-made-clause-read_to_end g c =
@@ -309,7 +309,7 @@ returns-in_err-made-clause-log_read g c =
     rw (exit.1, exit.2) (λ log_text store_bytes is tells.
     let still = ap g.LR.Reread.text c.in_ok-decoded.ensures.log_unread ∙ is in
     comes_first _ _ c.in_err-made.field-0.0
-    (subst (λ held. OnceLogRead (IsReadThrough held (g.LR.Reread.read_to c.make.new.log)) c.in_err-made.field-0.0) still c.in_err-made.ensures.read))
+    (subst (λ held. OnceLogRead (IsLogRead held (g.LR.Reread.read_to c.make.new.log)) c.in_err-made.field-0.0) still c.in_err-made.ensures.read))
 
 pub returns-in_err-write_in_place-clause-read_first : goal.returns-in_err-write_in_place-clause-read_first
 returns-in_err-write_in_place-clause-read_first g c = inr (read_still (g.SR.Reread.text c.args.store.now) (g.SR.Reread.text c.read_store_first.new.store) _ _ c.in_ok-decoded.ensures.kept c.in_ok-decoded.ensures.end c.write_in_place.ensures.grows)

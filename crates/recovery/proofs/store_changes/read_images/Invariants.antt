@@ -14,7 +14,9 @@ invariant-loop-offset g l =
       size : length l.reader ≡ l.offset;
       whole : (pieces : ℕ) × (l.offset ≡ STORE_HEADER_BYTES + PIECE * pieces);
       came : (behind : List ℕ) × (l.reader ≡ l.fn.reader ++ behind) × ComeFrom (g.R.Reread.text l.fn.source) STORE_HEADER_BYTES behind;
-      reach : ReachesTo (g.R.Reread.text l.fn.source) l.offset (g.R.Reread.read_to l.source);
+      reach :
+          ReachesTo (g.R.Reread.text l.fn.source) STORE_HEADER_BYTES (g.R.Reread.read_to l.fn.source)
+          → ReachesTo (g.R.Reread.text l.fn.source) l.offset (g.R.Reread.read_to l.source);
       same : Keeps (g.R.Reread.text l.fn.source) (g.R.Reread.text l.source);
       failures : g.R.Source.failures l.source ≡ g.R.Source.failures l.fn.source;
     }
