@@ -4,11 +4,11 @@ ghost use Rattle.std.specs.Prelude.{◌≢◌};
 ghost use Rattle.page.specs.declared.fault.Fault.TheVariants.{NoResource};
 
 use crate::new_file::{make, open, sync_folder};
-use device::{FileSink, FileSource, MemorySource, Reread, Source, read_full_at};
+use device::{FileSink, FileSource, Reread, Source, read_full_at};
 use job_files::{NotedFile, Notes};
 use page::Fault;
 use recovery::{
-    Report, audit_texts, audit_texts_over, read_source, read_store_whole, recover, recover_copying,
+    Report, audit_texts, audit_texts_over, hold_store, read_source, recover, recover_copying,
 };
 use redo::OpenGate;
 use restart::Options;
@@ -142,7 +142,7 @@ fn recover_made<R: Files<File = File> + Clock + Threads + Sync>(
 ) -> Result<Report, Fault> {
     let reading = reading_of(rt, alloc, &log, &store, &old.log)?;
     let mut log = FileSource::sized(NotedFile::new(log, rt, &old.log));
-    let mut store = FileSource::sized(NotedFile::new(store, rt, &old.store));
+    let mut store = FileSource::new(NotedFile::new(store, rt, &old.store));
     let mut out_log = FileSink::new(NotedFile::new(new_log, rt, &new.log));
     let mut out_store = FileSink::new(NotedFile::new(new_store, rt, &new.store));
     match reading {
@@ -155,11 +155,11 @@ fn recover_made<R: Files<File = File> + Clock + Threads + Sync>(
             options,
         ),
         Reading::Pieces => {
-            let bytes = read_store_whole(alloc, &mut log, &mut store)?;
+            let mut held = hold_store(alloc, &mut log, &mut store)?;
             recover_copying(
                 alloc,
                 &mut log,
-                &mut MemorySource::new(&bytes),
+                &mut held,
                 &mut out_log,
                 &mut out_store,
                 options,

@@ -16,10 +16,10 @@ use crate::left::{Finished, finish, remove_left};
 use crate::names::{Opened, PlaceFiles, open_in_place, turn_down};
 use crate::new_file::{make, refuse, remove, sync_folder, sync_found};
 use crate::new_tail::{Cut, NewTail, make_tail};
-use device::{FileLog, FileSink, FileSource, MemorySource};
+use device::{FileLog, FileSink, FileSource};
 use job_files::{Call, NotedFile, Notes, Refusal, folder_of};
 use page::Fault;
-use recovery::{Report, read_store_whole, recover_in_place};
+use recovery::{Report, hold_store, recover_in_place};
 use restart::Options;
 use std::alloc::Global;
 use std::cell::Cell;
@@ -88,7 +88,7 @@ fn recover_made<'x, R: Files<File = File> + Clock>(
     let is_large = is_large(&store);
     let new_tail = NewTail::new(rt, alloc, files, (new_tail, lock), cut);
     let mut log = FileSource::sized(NotedFile::new(log, rt, &files.log));
-    let mut store = FileSource::sized(NotedFile::new(store, rt, &files.store));
+    let mut store = FileSource::new(NotedFile::new(store, rt, &files.store));
     let mut tail = FileSink::new(new_tail);
     let mut out_log = FileLog::new(NotedFile::new(out_log, rt, &files.out_log));
     let mut out_store = FileSink::new(NotedFile::new(new_store, rt, &files.new_store));
@@ -103,11 +103,11 @@ fn recover_made<'x, R: Files<File = File> + Clock>(
             options,
         );
     }
-    let bytes = read_store_whole(alloc, &mut log, &mut store)?;
+    let mut held = hold_store(alloc, &mut log, &mut store)?;
     recover_in_place(
         alloc,
         &mut log,
-        &mut MemorySource::new(&bytes),
+        &mut held,
         &mut tail,
         &mut out_log,
         &mut out_store,

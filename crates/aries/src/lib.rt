@@ -32,14 +32,16 @@ pub use program::run;
 // What a caller needs of the crates below.
 pub use command::{Job, Refusal, command_of};
 pub use device::{
-    Continue, Failed, FileLog, FileSink, FileSource, MemorySink, MemorySource, Sink, Source,
+    Continue, Failed, FileLog, FileSink, FileSource, MemorySink, MemorySource, Reread, Sink,
+    Source,
 };
+pub use held_store::HeldStore;
 pub use page::{Fault, Page, Store};
 pub use recovery::{
-    Recovery, Report, TailFile, audit_texts, audit_texts_over, continue_log,
+    Recovery, Report, TailFile, audit_texts, audit_texts_over, continue_log, hold_store,
     no_fault_of_a_recovery, no_fault_of_lawful_texts, no_fault_of_lawful_texts_over,
     one_audit_fault, one_audit_fault_over, one_recovery, one_recovery_fault, recover,
-    read_store_whole, recover_copying, recover_in_place, recovery_alone, report_text,
+    recover_copying, recover_in_place, recovery_alone, report_text,
 };
 pub use redo::{Gate, OpenGate, Parting};
 pub use restart::{

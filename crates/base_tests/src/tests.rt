@@ -1,9 +1,10 @@
 //! Pages, stores and fault texts; changes of pages; boards; devices over memory, devices that are slow or fail, and
-//! devices over files.
+//! devices over files, held stores.
 
 mod again;
 mod boards;
 mod files;
+mod held_stores;
 mod page_changes;
 mod store_lsns;
 mod stores;

@@ -53,7 +53,7 @@ pub use laws::{
     no_fault_of_a_recovery, no_fault_of_lawful_texts, no_fault_of_lawful_texts_over,
     one_audit_fault, one_audit_fault_over, one_recovery, one_recovery_fault,
 };
-pub use log_again::read_store_whole;
+pub use log_again::hold_store;
 pub use recovery::Recovery;
 pub use report::{Report, report_text};
 pub use tail_file::TailFile;

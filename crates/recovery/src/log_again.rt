@@ -5,6 +5,7 @@ ghost use Rattle.std.specs.Prelude.{◌≡◌, ◌≢◌, ◌<◌, ◌≤◌, �
 ghost use Rattle.std.specs.Io.KnownBytes.{IsAtEnd, Keeps};
 ghost use Rattle.device.specs.Reread.{IsReadThrough};
 ghost use Rattle.page.specs.declared.fault.Fault.TheVariants.{NoResource, ReadLog, ReadStore};
+ghost use Rattle.held_store.specs.Held.{held_text};
 ghost use Rattle.recovery.specs.Devices.{Gave, IsFaultOf};
 ghost use Rattle.recovery.specs.TailFile.{IsEndSum, IsSumOn, sum_of};
 ghost use Rattle.recovery.specs.ByPieces.{IsOfLog, OnceLogRead, IsLogRead, fault_of, StoreFails, IsLog, LogCause};
@@ -14,11 +15,11 @@ ghost use Rattle.recovery.specs.Calls.{Blames, FailsMore, ForHeld, ForKept, ForP
 ghost use Rattle.recovery.specs.StoreChanges.{AreDecodedLsns};
 ghost use Rattle.std.specs.Option.{ForSome};
 
-use crate::devices::read_source;
 use crate::reading::read_from;
 use crate::store_changes::{DecodedLsns, read_lsns};
 use crate::tail_file::{END_BYTES, SUM_OF_NONE, sum_on};
-use device::{Reread, Source};
+use device::{ReadFault, Reread, Source};
+use held_store::HeldStore;
 use page::Fault;
 use passes::{PassFault, find_marks};
 use std::alloc::Global;
@@ -117,18 +118,18 @@ pub fn fault_after<L: Reread>(log: &mut L, stopped: PassFault, room: &mut [u8]) 
     first_fault(log, fault_of(stopped), room)
 }
 
-/// All bytes that a store's source has left, which are read before its log. Then the store can be
-/// read again, by a [`MemorySource`](device::MemorySource).
+/// Reads all bytes that a store's source has left into memory, before its log is read. Then they
+/// can be read again, without a failure. Memory is taken as bytes come.
 ///
 /// The errors are: `ReadLog`, if the store's source failed, or memory was refused, and `log` fails
 /// too when it is read to its end; `ReadStore`, if the source failed; `NoResource`, if memory was
 /// refused.
-pub fn read_store_whole<L: Reread, S: Source>(
+pub fn hold_store<L: Reread, S: Source>(
     alloc: Global,
     log: &mut L,
     store: &mut S,
-) -> Result<Vec<u8>, Fault>
-    ensures gave { IfOk result (λ bytes. Gave (S.left store.old) bytes.items) }
+) -> Result<HeldStore, Fault>
+    ensures gave { IfOk result (λ held. Gave (S.left store.old) (held_text held)) }
     ensures end { OnOk result (IsAtEnd (S.left store.new)) }
     ensures log_unread { OnOk result (log.new ≡ log.old) }
     ensures log_read { IfErr result
@@ -137,10 +138,12 @@ pub fn read_store_whole<L: Reread, S: Source>(
     ensures log_source { Blames ReadLog L.failures log.old log.new result }
     ensures store_source { StoreFails result (S.failures store.old) (S.failures store.new) }
 {
-    match read_source(alloc, store, Fault::ReadStore) {
-        Ok(bytes) => Ok(bytes),
-        Err(fault) => Err(first_fault(log, fault, &mut [0; SMALL_ROOM])),
-    }
+    let fault = match HeldStore::read(alloc, store) {
+        Ok(held) => return Ok(held),
+        Err(ReadFault::Failed) => Fault::ReadStore,
+        Err(ReadFault::NoMemory) => Fault::NoResource,
+    };
+    Err(first_fault(log, fault, &mut [0; SMALL_ROOM]))
 }
 
 /// Reads the PageLSNs of a store before its log: the store's device is read from its beginning to

@@ -3,9 +3,9 @@
 mod calls;
 mod in_place;
 
-use aries::{Options, read_store_whole, recover, recover_copying};
+use aries::{Options, hold_store, recover, recover_copying};
 use checks::{check, check_all};
-use device::{MemorySource, Pace, SlowSink, SlowSource};
+use device::{Pace, SlowSink, SlowSource};
 use page::{Fault, Page};
 use redo::OpenGate;
 use std::alloc::Global;
@@ -155,10 +155,8 @@ fn recovered<R: Threads + Sync>(
             rt, alloc, log, store, out_log, out_store, &OPTIONS, &OpenGate,
         ),
         Way::Copying => recover_copying(alloc, log, store, out_log, out_store, &OPTIONS),
-        Way::CopyingHeld => read_store_whole(alloc, log, store).and_then(|bytes| {
-            let store = &mut MemorySource::new(&bytes);
-            recover_copying(alloc, log, store, out_log, out_store, &OPTIONS)
-        }),
+        Way::CopyingHeld => hold_store(alloc, log, store)
+            .and_then(|mut held| recover_copying(alloc, log, &mut held, out_log, out_store, &OPTIONS)),
     };
     answer.map(|_| ())
 }

@@ -1,0 +1,3 @@
+pub mod Block
+pub mod Held
+pub mod Images
