@@ -32,8 +32,7 @@ pub use program::run;
 // What a caller needs of the crates below.
 pub use command::{Job, Refusal, command_of};
 pub use device::{
-    Continue, Failed, FileLog, FileSink, FileSource, MemorySink, MemorySource, Reread, Sink,
-    Source,
+    Continue, Failed, FileLog, FileSink, FileSource, MemorySink, MemorySource, Reread, Sink, Source,
 };
 pub use held_store::HeldStore;
 pub use page::{Fault, Page, Store};

@@ -155,8 +155,9 @@ fn recovered<R: Threads + Sync>(
             rt, alloc, log, store, out_log, out_store, &OPTIONS, &OpenGate,
         ),
         Way::Copying => recover_copying(alloc, log, store, out_log, out_store, &OPTIONS),
-        Way::CopyingHeld => hold_store(alloc, log, store)
-            .and_then(|mut held| recover_copying(alloc, log, &mut held, out_log, out_store, &OPTIONS)),
+        Way::CopyingHeld => hold_store(alloc, log, store).and_then(|mut held| recover_copying(
+            alloc, log, &mut held, out_log, out_store, &OPTIONS,
+        )),
     };
     answer.map(|_| ())
 }
