@@ -44,11 +44,7 @@ read_still None now m n kept read grows = tt
 read_still (Some held) None m n kept read grows = absurd kept
 read_still (Some held) (Some same) m n kept read grows = omega (arith, read, grows)
 
--- before anything is read again
-pub grows_none : (text : Option (List ℕ)) (m : ℕ) → ReachGrows text m m
-grows_none None m = tt
-grows_none (Some held) m = omega arith
-
+-- before anything is read
 pub reach_none : (text : Option (List ℕ)) (m : ℕ) → ReachesTo text 0 m
 reach_none None m = tt
 reach_none (Some held) m = omega arith

@@ -4,5 +4,6 @@ pub mod Files
 pub mod Kept
 pub mod Memory
 pub mod Reread
+pub mod Rereading
 pub mod Slow
 pub mod Transfer

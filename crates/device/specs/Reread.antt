@@ -23,10 +23,11 @@ ReachGrows text before after = ReachesTo text before after
 abbrev pub ReachJoins : (text : Option (List ℕ)) → (before after offset count : ℕ) → Type 0
 ReachJoins text before after offset count = IfSome text (λ _. offset ≤ before → offset + count ≤ after)
 
--- no further than to the end of what was read
-abbrev pub ReachIsGiven : {E : Type 0} → (text : Option (List ℕ)) → (before after offset : ℕ) → Result ℕ E → Type 0
-ReachIsGiven text before after offset result =
-    IfSome text (λ _. (after ≡ before) ⊎ IfOk result (λ count. (offset ≤ before) × (after ≡ offset + count)))
+-- by one reading, and no further than to the end of what it read
+pub record Reaches {E : Type 0} (text : Option (List ℕ)) (before after offset : ℕ) (result : Result ℕ E) : Type 0 where
+  pub grows : ReachGrows text before after
+  pub joins : IfOk result (ReachJoins text before after offset)
+  pub given : IfSome text (λ _. (after ≡ before) ⊎ IfOk result (λ count. (offset ≤ before) × (after ≡ offset + count)))
 
 -- all bytes of the device are read
 abbrev pub IsReadThrough : (text : Option (List ℕ)) → (read_to : ℕ) → Type 0

@@ -3,7 +3,8 @@
 ghost use Rattle.std.specs.Prelude.{◌≡◌, ◌+◌, ◌^◌, ◌≤◌, ◌<◌, ◌⊎◌, take, drop, length, IfOk};
 ghost use Rattle.std.specs.Io.KnownBytes.{Keeps};
 ghost use Rattle.device.specs.Failures.{Counts};
-ghost use Rattle.device.specs.Reread.{EndsBy, ReachGrows, ReachJoins, ReadsFrom};
+ghost use Rattle.device.specs.Reread.{EndsBy, ReadsFrom};
+ghost use Rattle.device.specs.Rereading.{ReadsOn, StaysRead};
 
 use crate::{Failed, Reread};
 
@@ -44,9 +45,8 @@ fn read_behind_at<S: Reread>(
         (drop filled buffer.new)) }
     ensures end { IfOk result (λ count. count ≡ 0 → EndsBy (S.text source.old) (start + filled)) }
     ensures same { Keeps (S.text source.old) (S.text source.new) }
-    ensures grows { ReachGrows (S.text source.old) (S.read_to source.old) (S.read_to source.new) }
-    ensures joins { IfOk result (λ count. ReachJoins (S.text source.old) (S.read_to source.old)
-        (S.read_to source.new) (start + filled) count) }
+    ensures grows { StaysRead S.text S.read_to source.old source.new }
+    ensures joins { ReadsOn S.text S.read_to source.old source.new (start + filled) result }
     ensures cause { Counts (S.failures source.old) (S.failures source.new) result }
 {
     source.read_at(start + filled as u64, &mut buffer[filled..])
@@ -70,9 +70,8 @@ pub fn read_full_at<S: Reread>(
     ensures end { IfOk result (λ count. count < length buffer.new
         → EndsBy (S.text source.old) (offset + count)) }
     ensures same { Keeps (S.text source.old) (S.text source.new) }
-    ensures grows { ReachGrows (S.text source.old) (S.read_to source.old) (S.read_to source.new) }
-    ensures joins { IfOk result (λ count. ReachJoins (S.text source.old) (S.read_to source.old)
-        (S.read_to source.new) offset count) }
+    ensures grows { StaysRead S.text S.read_to source.old source.new }
+    ensures joins { ReadsOn S.text S.read_to source.old source.new offset result }
     ensures cause { Counts (S.failures source.old) (S.failures source.new) result }
 {
     let mut filled = 0;

@@ -7,7 +7,7 @@ ghost use Rattle.std.specs.Io.KnownBytes.{Keeps, ReadConsumes, WriteAppends};
 ghost use Rattle.device.specs.Failures.{Counts};
 ghost use Rattle.device.specs.Transfer.{Flushes};
 ghost use Rattle.device.specs.Continued.{Cuts, Shortens};
-ghost use Rattle.device.specs.Reread.{EndsBy, ReachGrows, ReachIsGiven, ReachJoins, ReadsFrom};
+ghost use Rattle.device.specs.Reread.{EndsBy, Reaches, ReadsFrom};
 
 /// A device failed. It does not say why.
 #[derive(Clone, Copy, Debug, PartialEq, Eq, Drop)]
@@ -111,10 +111,6 @@ pub trait Reread: Source {
         ensures end { IfOk result (λ count. count ≡ 0 → 0 < length buffer.new
             → EndsBy (text self.old) offset) }
         ensures same { Keeps (text self.old) (text self.new) }
-        ensures grows { ReachGrows (text self.old) (read_to self.old) (read_to self.new) }
-        ensures joins { IfOk result (λ count. ReachJoins (text self.old) (read_to self.old)
-            (read_to self.new) offset count) }
-        ensures given { ReachIsGiven (text self.old) (read_to self.old) (read_to self.new)
-            offset result }
+        ensures reach { Reaches (text self.old) (read_to self.old) (read_to self.new) offset result }
         ensures cause { Counts (Self.failures self.old) (Self.failures self.new) result };
 }

@@ -7,7 +7,8 @@ ghost use Rattle.page.specs.declared.fault.Fault.{Fault};
 ghost use Rattle.page.specs.declared.fault.Fault.TheVariants.{ReadLog, ReadStore, WriteLog, WriteStore};
 ghost use Rattle.page.specs.declared.profile.TheConstants.{PAGES};
 ghost use Rattle.device.specs.Failures.{Counts};
-ghost use Rattle.device.specs.Reread.{IsReadThrough, ReachGrows};
+ghost use Rattle.device.specs.Reread.{IsReadThrough};
+ghost use Rattle.device.specs.Rereading.{StaysRead};
 ghost use Rattle.restart.specs.Options.{OptionsFault};
 ghost use Rattle.recovery.specs.Devices.{AreOut, Completes, Delivers, ForCut, ForLawful, NewLogIsOut, OnceRead, UnlessDevice, Writes};
 ghost use Rattle.recovery.specs.ByPieces.{ForBytes, ForTexts, LogComesFirst, IsLogRead, StoreFails, TextsCause};
@@ -147,7 +148,7 @@ fn write_copied<L: Reread, R: Reread, K: Sink, S: Sink>(
     ensures order { (out.new ≡ out.old)
         ⊎ CopyIsOut (L.text log.old) made.now.log K.Sink to.old to.new }
     ensures flushed_first { (out.new ≡ out.old) ⊎ IsStored K.Sink to.old to.new }
-    ensures grows { ReachGrows (R.text store.old) (R.read_to store.old) (R.read_to store.new) }
+    ensures grows { StaysRead R.text R.read_to store.old store.new }
     ensures fault { IfErr result (LeavesCopy K.Sink to.old to.new S.Sink out.old out.new
         (L.text log.old) (R.text store.old) made.now) }
     ensures named { IfErr result (λ e. IsOfCopying e ⊎ IsOfRewriting e) }

@@ -7,7 +7,8 @@ ghost use Rattle.page.specs.declared.fault.Fault.{Fault};
 ghost use Rattle.page.specs.declared.fault.Fault.TheVariants.{ReadLog, ReadStore, WriteLog, WriteStore};
 ghost use Rattle.page.specs.declared.profile.TheConstants.{PAGES};
 ghost use Rattle.device.specs.Failures.{Counts};
-ghost use Rattle.device.specs.Reread.{IsReadThrough, ReachGrows};
+ghost use Rattle.device.specs.Reread.{IsReadThrough};
+ghost use Rattle.device.specs.Rereading.{StaysRead};
 ghost use Rattle.restart.specs.Options.{OptionsFault};
 ghost use Rattle.recovery.specs.ByPieces.{ForBytes, ForTexts, LogComesFirst, IsLogRead, StoreFails, TextsCause};
 ghost use Rattle.recovery.specs.Calls.{Blames, BlamesSinks, CountsSinks, IsStored};
@@ -77,7 +78,7 @@ fn write_in_place<R: Reread, T: Sink, L: Continue, S: Sink>(
         ⊎ AreOut T.Sink tail.old tail.new (file_text file.now) }
     ensures log_first { (out_store.new ≡ out_store.old)
         ⊎ ContinuesBy L.Sink log.old log.new file.now }
-    ensures grows { ReachGrows (R.text store.old) (R.read_to store.old) (R.read_to store.new) }
+    ensures grows { StaysRead R.text R.read_to store.old store.new }
     ensures log_done { OnOk result (ContinuesBy L.Sink log.old log.new file.now) }
     ensures store_out { OnOk result (Rewrites (R.text store.old) master changes.now
         S.Sink out_store.old out_store.new) }

@@ -2,7 +2,8 @@
 
 ghost use Rattle.std.specs.Prelude.{◌≡◌, ◌+◌, ◌^◌, ◌≤◌, length, IfOk, IfErr};
 ghost use Rattle.std.specs.Io.KnownBytes.{Keeps};
-ghost use Rattle.device.specs.Reread.{ReachGrows, ReachJoins, ReadsFrom};
+ghost use Rattle.device.specs.Reread.{ReadsFrom};
+ghost use Rattle.device.specs.Rereading.{ReadsOn, StaysRead};
 ghost use Rattle.recovery.specs.Calls.{Blames, IsShortAtEnd};
 
 use device::{Failed, Reread, read_full_at};
@@ -21,9 +22,8 @@ pub fn read_from<R: Reread>(
     ensures bytes { IfOk result (λ count. ReadsFrom (R.text source.old) offset count buffer.new) }
     ensures end { IfOk result (IsShortAtEnd (R.text source.old) offset buffer.new) }
     ensures same { Keeps (R.text source.old) (R.text source.new) }
-    ensures grows { ReachGrows (R.text source.old) (R.read_to source.old) (R.read_to source.new) }
-    ensures joins { IfOk result (λ count. ReachJoins (R.text source.old) (R.read_to source.old)
-        (R.read_to source.new) offset count) }
+    ensures grows { StaysRead R.text R.read_to source.old source.new }
+    ensures joins { ReadsOn R.text R.read_to source.old source.new offset result }
     ensures fault { IfErr result (λ e. e ≡ fault) }
     ensures cause { Blames fault R.failures source.old source.new result }
 {

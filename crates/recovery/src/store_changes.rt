@@ -6,7 +6,8 @@ ghost use Rattle.std.specs.Io.KnownBytes.{Keeps};
 ghost use Rattle.page.specs.declared.fault.Fault.TheVariants.{ReadStore, WriteStore, StoreSize};
 ghost use Rattle.page.specs.declared.profile.TheConstants.{PAGES, PAGE_BYTES};
 ghost use Rattle.page.specs.declared.sizes.TheConstants.{STORE_HEADER_BYTES};
-ghost use Rattle.device.specs.Reread.{IsReadThrough, ReachesTo, ReachGrows};
+ghost use Rattle.device.specs.Reread.{IsReadThrough, ReachesTo};
+ghost use Rattle.device.specs.Rereading.{StaysRead};
 ghost use Rattle.recovery.specs.Calls.{Blames, IsStored, Took, Began};
 ghost use Rattle.recovery.specs.Devices.{IsFaultOf};
 ghost use Rattle.recovery.specs.declared.store_pieces.TheConstants.{PIECE};
@@ -95,7 +96,7 @@ fn reread_images<R: Reread>(store: &mut R, first: usize, images: &mut [u8]) -> R
     ensures fault { IfErr result (IsReadFault (R.text store.old) first images.old) }
     ensures named { IfErr result (λ e. (e ≡ ReadStore) ⊎ (e ≡ StoreSize)) }
     ensures same { Keeps (R.text store.old) (R.text store.new) }
-    ensures grows { ReachGrows (R.text store.old) (R.read_to store.old) (R.read_to store.new) }
+    ensures grows { StaysRead R.text R.read_to store.old store.new }
     ensures cause { Blames ReadStore R.failures store.old store.new result }
 {
     let offset = STORE_HEADER_BYTES + PAGE_BYTES * first;
@@ -122,7 +123,7 @@ fn read_changed<R: Reread>(
     ensures named { IfErr result IsOfRewriting }
     ensures not_sinks { IfErr result (λ e. e ≢ WriteStore) }
     ensures same { Keeps (R.text store.old) (R.text store.new) }
-    ensures grows { ReachGrows (R.text store.old) (R.read_to store.old) (R.read_to store.new) }
+    ensures grows { StaysRead R.text R.read_to store.old store.new }
     ensures cause { Blames ReadStore R.failures store.old store.new result }
 {
     reread_images(store, first, images)?;
@@ -157,7 +158,7 @@ fn write_images<R: Reread, S: Sink>(
     ensures fault { IfErr result (IsRewriteFault (R.text store.old) changes.now) }
     ensures named { IfErr result IsOfRewriting }
     ensures same { Keeps (R.text store.old) (R.text store.new) }
-    ensures grows { ReachGrows (R.text store.old) (R.read_to store.old) (R.read_to store.new) }
+    ensures grows { StaysRead R.text R.read_to store.old store.new }
     ensures unflushed { Keeps (S.flushed out.old) (S.flushed out.new) }
     ensures store_source { Blames ReadStore R.failures store.old store.new result }
     ensures store_sink { Blames WriteStore S.failures out.old out.new result }
@@ -198,7 +199,7 @@ pub fn write_changed<R: Reread, S: Sink>(
     ensures fault { IfErr result (IsRewriteFault (R.text store.old) changes.now) }
     ensures named { IfErr result IsOfRewriting }
     ensures same { Keeps (R.text store.old) (R.text store.new) }
-    ensures grows { ReachGrows (R.text store.old) (R.read_to store.old) (R.read_to store.new) }
+    ensures grows { StaysRead R.text R.read_to store.old store.new }
     ensures store_source { Blames ReadStore R.failures store.old store.new result }
     ensures store_sink { Blames WriteStore S.failures out.old out.new result }
 {
