@@ -1,3 +1,4 @@
 pub mod Block
 pub mod Held
 pub mod Images
+pub mod Zeros

@@ -1,11 +1,10 @@
 //! A store, in memory without the zeros at the ends of its images.
 
 ghost use Rattle.std.specs.Prelude.{◌≡◌, ◌+◌, ◌-◌, ◌≤◌, ◌<◌, ◌++◌, Some, take, drop, length, vec_len, IfErr, IfOk, IfSome, OnOk};
-ghost use Rattle.std.specs.Io.KnownBytes.{Consumes, IsAtEnd};
-ghost use Rattle.device.specs.Transfer.{failures_of};
+ghost use Rattle.std.specs.Io.KnownBytes.{IsAtEnd};
 ghost use Rattle.device.specs.declared.transfer.ReadFault.TheVariants.{NoMemory};
 ghost use Rattle.page.specs.declared.sizes.TheConstants.{STORE_HEADER_BYTES};
-ghost use Rattle.held_store.specs.Images.{images_text};
+ghost use Rattle.held_store.specs.Images.{AreRead, FailsBy, images_text};
 ghost use Rattle.held_store.specs.declared.held.TheConstants.{PIECE};
 
 use crate::images::Images;
@@ -27,12 +26,10 @@ fn room_for_piece(alloc: Global) -> Result<Vec<u8>, ReadFault>
 /// The bytes that a source has left, as images, and how many they are.
 fn read_images<S: Source>(alloc: Global, source: &mut S) -> Result<(Images, usize), ReadFault>
     ensures within { IfOk result (λ read. read.1 ≤ length (images_text read.0)) }
-    ensures read { IfOk result (λ read. Consumes (S.left source.old) (S.left source.new)
-        (take read.1 (images_text read.0))) }
+    ensures read { AreRead (S.left source.old) (S.left source.new) result }
     ensures end { OnOk result (IsAtEnd (S.left source.new)) }
     ensures no_failure { OnOk result (S.failures source.new ≡ S.failures source.old) }
-    ensures cause { IfErr result (λ fault. S.failures source.new
-        ≡ S.failures source.old + failures_of fault) }
+    ensures cause { FailsBy (S.failures source.old) (S.failures source.new) result }
 {
     let mut room = room_for_piece(alloc)?;
     let mut images = Images::new(alloc);
@@ -80,7 +77,7 @@ fn copy_front(bytes: &[u8], buffer: &mut [u8]) -> usize
 impl HeldStore {
     ghost use Rattle.held_store.specs.Held.{held_text, bytes_left};
 
-    /// This many bytes of a header and the images behind it.
+    /// The first of these bytes, as many as `size` says: a header and the images after it.
     fn new(header: [u8; STORE_HEADER_BYTES], images: Images, size: usize) -> HeldStore
         requires { size ≤ STORE_HEADER_BYTES + length (images_text images) }
         ensures text { held_text result ≡ take size (header ++ images_text images) }
@@ -106,16 +103,15 @@ impl HeldStore {
         ensures unread { IfOk result (λ held. bytes_left held ≡ held_text held) }
         ensures end { OnOk result (IsAtEnd (S.left source.new)) }
         ensures no_failure { OnOk result (S.failures source.new ≡ S.failures source.old) }
-        ensures cause { IfErr result (λ fault. S.failures source.new
-            ≡ S.failures source.old + failures_of fault) }
+        ensures cause { FailsBy (S.failures source.old) (S.failures source.new) result }
     {
         let mut header = [0; STORE_HEADER_BYTES];
         let count = read_full(source, &mut header).map_err(|_| ReadFault::Failed)?;
         if count < STORE_HEADER_BYTES {
             return Ok(HeldStore::new(header, Images::new(alloc), count));
         }
-        let (images, behind) = read_images(alloc, source)?;
-        let size = behind.checked_add(count).ok_or(ReadFault::NoMemory)?;
+        let (images, more) = read_images(alloc, source)?;
+        let size = more.checked_add(count).ok_or(ReadFault::NoMemory)?;
         Ok(HeldStore::new(header, images, size))
     }
 

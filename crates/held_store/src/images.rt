@@ -42,7 +42,7 @@ impl Images {
         }
     }
 
-    /// Puts an image behind the others. Bytes shorter than an image are held with zeros after
+    /// Puts an image after the others. Bytes shorter than an image are held with zeros after
     /// them. `AllocError` if memory was refused; then the images are as before.
     pub fn push(&mut self, image: &[u8]) -> Result<(), AllocError>
         requires { length image.now ≤ PAGE_BYTES }
@@ -57,7 +57,7 @@ impl Images {
         Ok(())
     }
 
-    /// Puts many images behind the others. If the last bytes are no whole image, they are held with
+    /// Puts many images after the others. If the last bytes are no whole image, they are held with
     /// zeros after them. `AllocError` if memory was refused; then not all images are held.
     pub fn extend(&mut self, images: &[u8]) -> Result<(), AllocError>
         ensures { OnOk result (Grows (images_text self.old) images.now (images_text self.new)) }

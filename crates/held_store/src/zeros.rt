@@ -2,19 +2,20 @@
 
 ghost use Rattle.std.specs.Prelude.{◌≡◌, ◌+◌, ◌≤◌, ◌-◌, ◌↔◌, IsTrue, length, drop, replicate};
 ghost use Rattle.page.specs.declared.page.Page.{Page};
-ghost use Rattle.page.specs.Image.{SpellsPage, cells};
-ghost use Rattle.held_store.specs.declared.zeros.TheConstants.{CELLS_AT};
+ghost use Rattle.page.specs.Image.{SpellsPage};
+ghost use Rattle.held_store.specs.Zeros.{cells_end};
 
-use page::{PAGE_BYTES, SLOTS};
+use page::{MAGIC_BYTES, SLOTS, STORE_HEADER_BYTES};
 
-/// How many bytes come before the directory of an image.
-const DIRECTORY_AT: usize = 16;
+/// How many bytes come before the directory of an image: as many as a store's header has after its
+/// magic.
+const DIRECTORY_AT: usize = STORE_HEADER_BYTES - MAGIC_BYTES;
 
 /// How many bytes come before the cells of an image. An entry of the directory has four bytes.
 const CELLS_AT: usize = DIRECTORY_AT + 4 * SLOTS;
 
-/// Whether all of these bytes are zero. It looks at every byte, so that many bytes can be checked
-/// at once.
+/// Whether all of these bytes are zero. No byte ends the loop early, so that many bytes can be
+/// checked at once.
 fn is_zero(bytes: &[u8]) -> bool
     ensures { IsTrue result ↔ (bytes.now ≡ replicate (length bytes.now) 0) }
 {
@@ -28,8 +29,7 @@ fn is_zero(bytes: &[u8]) -> bool
 /// Where the cells of an image end, by the lengths in its directory. The directory may lie, and
 /// bytes that are too short for one are all taken for cells.
 fn cells_end(image: &[u8]) -> usize
-    ensures { (page : Page) → SpellsPage image.now page
-        → result ≡ CELLS_AT + length (cells page.slots) }
+    ensures { (page : Page) → SpellsPage image.now page → result ≡ cells_end page }
 {
     if image.len() < CELLS_AT {
         return image.len();
@@ -42,13 +42,12 @@ fn cells_end(image: &[u8]) -> usize
     end
 }
 
-/// How many bytes of an image have to be kept: all before the zeros behind its cells. If other
-/// bytes are found there, all are kept. Of the image of a page, no byte behind its cells is kept.
+/// How many bytes of an image have to be kept: those before the zeros that follow its cells. If
+/// other bytes are found there, all are kept. A page's image keeps no byte after its cells.
 pub fn kept_count(image: &[u8]) -> usize
     ensures within { result ≤ length image.now }
     ensures zeros { drop result image.now ≡ replicate (length image.now - result) 0 }
-    ensures few { (page : Page) → SpellsPage image.now page
-        → result ≤ CELLS_AT + length (cells page.slots) }
+    ensures few { (page : Page) → SpellsPage image.now page → result ≤ cells_end page }
 {
     let end = cells_end(image).min(image.len());
     if is_zero(&image[end..]) {

@@ -7,6 +7,6 @@ use Rattle.held_store.proofs.zeros.cells_end.Given as goal
 
 abbrev pub invariant-loop-slot : goal.invariant-loop-slot
 invariant-loop-slot l = record {
-  near : l.end ≤ 80 + 65535 * l.slot;
+  near : l.end ≤ CELLS_AT + 65535 * l.slot;
   exact : (page : Page) → SpellsPage l.image page → l.end ≡ CELLS_AT + length (cells (take l.slot page.slots));
 }
