@@ -19,7 +19,7 @@ from sizes import TESTS
 
 LONGEST = 100
 KEPT = {"analysis": 38, "aries_c": 13, "audit": 48, "board": 13, "changes": 21, "command": 6, "device": 14, "dump": 26, "dump_command": 5, "journal": 137,
-        "journal_recovery": 2, "page": 9, "passes": 125, "pieces": 8, "recovery": 41, "redo": 72, "wal": 12, "words": 1}
+        "journal_recovery": 2, "page": 9, "passes": 125, "pieces": 8, "recovery": 32, "redo": 72, "wal": 12, "words": 1}
 
 
 def crates():

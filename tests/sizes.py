@@ -40,6 +40,7 @@ OTHER = {
     "dump/src/log_lines.rt": {80: "bytes of a line"},
     "dump/src/record.rt": {16: "bytes of a name"},
     "dump_command/proofs/job/lsn_of/Answers.antt": {64: "bits of an LSN"},
+    "held_store/src/held.rt": {64: "images of a piece"},
     "journal/src/owned.rt": {1024: "pending updates that there is room for at first"},
     "journal/src/table.rt": {4096: "pending updates that are looked at together"},
     "page/proofs/BigEndian.antt": {16: "bytes of three numbers"},

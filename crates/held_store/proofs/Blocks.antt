@@ -54,9 +54,6 @@ same_image kept more block w =
     let behind : drop block.start (kept ++ more) ≡ drop block.start kept ++ more = drop-append-le block.start kept more (omega (arith, w.held)) in
     ap padded (ap (take block.kept) behind ∙ take-append-le block.kept (drop block.start kept) more (omega (arith, w.held, length-drop block.start kept)))
 
-pub still_within : (kept more : List ℕ) (block : Block) → IsWithin kept block → IsWithin (kept ++ more) block
-still_within kept more block w = record { held = omega (arith, w.held, length-append kept more); short = w.short }
-
 abbrev pub images_of : List ℕ → List Block → List ℕ
 images_of kept blocks = flat_map (image_of kept) blocks
 
@@ -70,11 +67,6 @@ length_images kept blocks w = length-pieces (image_of kept) PAGE_BYTES blocks (�
 
 -- ONE MORE IMAGE, of which the bytes come behind
 module _ (kept part : List ℕ) (blocks : List Block) (block : Block) (w : All (IsWithin kept) blocks) (start : block.start ≡ length kept) (count : block.kept ≡ length part) where
-  pub more_within : length part ≤ PAGE_BYTES → All (IsWithin (kept ++ part)) (blocks ++ block ∷ [])
-  more_within short =
-      All-push (IsWithin (kept ++ part)) blocks block (λ i d lt. still_within kept part (get_or blocks i d) (w i d lt))
-      (record { held = omega (arith, start, count, length-append kept part); short = omega (arith, count, short) })
-
   last_image : image_of (kept ++ part) block ≡ padded part
   last_image = ap padded (ap (λ n. take block.kept (drop n (kept ++ part))) start ∙ ap (take block.kept) (drop_at kept part (length kept) refl) ∙ take_all block.kept part (omega (arith, count)))
 
@@ -131,14 +123,6 @@ image_more i images before now after e le more =
     let whole : length piece ≡ PAGE_BYTES = omega (arith, le, length-take PAGE_BYTES (drop at images), length-drop at images) in
     more ∙ ap (λ k. now ++ padded (take k (drop at images))) count ∙ ap₂ (λ (s t : List ℕ). s ++ t) e (padded_whole piece whole) ∙ append_assoc before (take at images) piece
     ∙ ap (λ (t : List ℕ). before ++ t) (sym (take-add at PAGE_BYTES images)) ∙ ap (λ k. before ++ take k images) next
-
--- no bytes are behind them
-pub grows_whole : (images before now : List ℕ) → now ≡ before ++ take (PAGE_BYTES * (length images / PAGE_BYTES)) images → length images ≤ PAGE_BYTES * (length images / PAGE_BYTES) → Grows before images now
-grows_whole images before now e le = record {
-  zeros = 0;
-  text = e ∙ ap (λ (t : List ℕ). before ++ t) (take_all (PAGE_BYTES * (length images / PAGE_BYTES)) images le ∙ sym (append-nil images));
-  whole = λ _. refl;
-}
 
 -- some are
 pub grows_part : (images before now after rest : List ℕ) → now ≡ before ++ take (PAGE_BYTES * (length images / PAGE_BYTES)) images → rest ≡ drop (PAGE_BYTES * (length images / PAGE_BYTES)) images

@@ -10,22 +10,11 @@ use Rattle.page.specs.declared.profile.TheConstants.{PAGE_BYTES}
 use Rattle.page.specs.declared.sizes.TheConstants.{STORE_HEADER_BYTES}
 use Rattle.held_store.specs.Images.{Grows}
 
--- MORE IMAGES CAME: the bytes that came are there
-pub grown_length : (before bytes after : List ℕ) → Grows before bytes after → length before + length bytes ≤ length after
-grown_length before bytes after g =
-    let zeros = replicate {A = ℕ} g.zeros 0 in
-    omega (arith, ap (λ (t : List ℕ). length t) g.text, length-append before (bytes ++ zeros), length-append bytes zeros)
-
 pub grown_bytes : (size : ℕ) (before bytes after : List ℕ) → Grows before bytes after → size ≡ length before + length bytes → take size after ≡ before ++ bytes
 grown_bytes size before bytes after g e =
     let zeros = replicate {A = ℕ} g.zeros 0 in
     let split : after ≡ (before ++ bytes) ++ zeros = g.text ∙ sym (append_assoc before bytes zeros) in
     ap (take size) split ∙ take_at (before ++ bytes) zeros size (length-append before bytes ∙ sym e)
-
--- and they are all, if they are whole images
-pub grown_whole : (before bytes after : List ℕ) → Grows before bytes after → length bytes % PAGE_BYTES ≡ 0 → after ≡ before ++ bytes
-grown_whole before bytes after g e =
-    g.text ∙ ap (λ k. before ++ (bytes ++ replicate {A = ℕ} k 0)) (g.whole e) ∙ ap (λ (t : List ℕ). before ++ t) (append-nil bytes)
 
 -- a room that was written from its beginning to its end
 pub whole_room : (size : ℕ) (buffer items : List ℕ) → size ≡ length items → length buffer ≡ length items → take size (buffer ++ drop (length buffer) items) ≡ buffer

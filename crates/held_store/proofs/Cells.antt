@@ -61,9 +61,6 @@ module _ (image : List ℕ) (page : Page) (s : SpellsPage image page) where
       let more = cells_more page.slots i None (omega (arith, lt, s.fits.slots)) in
       omega (arith, e, is ∙ length_there i lt, sum, ap (λ (t : List ℕ). length t) more, length-append (cells (take i page.slots)) (cell slot))
 
-  pub end_all : (i end : ℕ) → SLOTS ≤ i → end ≡ CELLS_AT + length (cells (take i page.slots)) → end ≡ CELLS_AT + length (cells page.slots)
-  end_all i end le e = e ∙ ap (λ (t : List Image). CELLS_AT + length (cells t)) (take_all i page.slots (omega (arith, le, s.fits.slots)))
-
   -- zeros are behind the cells
   pub zeros_behind : (end : ℕ) → end ≡ CELLS_AT + length (cells page.slots) → drop end image ≡ replicate (length (drop end image)) 0
   zeros_behind end e =

@@ -3,7 +3,7 @@ use Rattle.std.specs.Prelude.{ℕ, List, ◌++◌, take, drop}
 use Rattle.held_store.specs.declared.held.HeldStore.{HeldStore}
 use Rattle.held_store.specs.Images.{images_text}
 
--- all bytes: as many as there are of the header and the images behind it
+-- all bytes: as many as there are of the header and the images after it
 abbrev pub held_text : HeldStore → List ℕ
 held_text held = take held.size (held.header ++ images_text held.images)
 

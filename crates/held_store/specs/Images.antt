@@ -13,7 +13,7 @@ use Rattle.held_store.specs.Block.{image_of}
 abbrev pub images_text : Images → List ℕ
 images_text images = flat_map (image_of images.kept.items) images.blocks.items
 
--- more bytes came behind, and zeros after them, unless they are whole images
+-- more bytes came, and zeros after them, unless they are whole images
 pub record Grows (before bytes after : List ℕ) : Type 0 where
   pub zeros : ℕ
   pub text : after ≡ before ++ (bytes ++ replicate zeros 0)

@@ -148,11 +148,6 @@ module _ (store_left : Option (List ℕ)) (log store : List ℕ) (made : Continu
       same_tail size (length log) kept (length log - made.report.torn) end _ cut _ frames made.frames.items (p ∙ measured.length_is) (q ∙ measured.kept_is)
       (r ∙ ap (λ n. sum_of (end_of (take n log))) measured.kept_is) (u ∙ ap (λ n. sum_of (drop n log)) measured.kept_is) h
 
--- a sink's fault is not one of the log's device
-pub stays_other : {U L S : Type 0} (s : Result U Fault) (log : Sink L) (a b : L) (store : Sink S) (c d : S) (kept : ℕ) (frames new_store : List ℕ) (e : Fault) → s ≡ Err e
-    → LeavesInPlace log a b store c d kept frames new_store e → s ≡ Err ReadLog → ⊥
-stays_other s log a b store c d kept frames new_store e is stays blamed =
-    subst (λ f. LeavesInPlace log a b store c d kept frames new_store f) (let same : e ≡ ReadLog = cc in same) stays
-
+-- another fault is not one of the log's device
 pub other_failed : {U : Type 0} (s : Result U Fault) (a b c : ℕ) → (s ≡ Err ReadLog → ⊥) → b ≡ a → c ≡ b → FailsOnlyWith ReadLog s a c
 other_failed s a b c other before after = record { blamed = λ is. absurd (other is); innocent = λ _. after ∙ before }

@@ -59,15 +59,14 @@ pub record StoreFails {T : Type 0} (answer : Result T Fault) (before after : ℕ
 abbrev pub IsLogRead : (text : Option (List ℕ)) → (read_to : ℕ) → Type 0
 IsLogRead text read_to = IfSome text (λ held. (length held ≤ read_to) ⊎ (2 ^ 63 ≤ read_to))
 
--- THE LOG'S DEVICE comes first: this is true of a fault that is returned only after that was read to its end, which is any but a lack of
--- memory and its own
+-- THE LOG'S DEVICE comes first. Before a fault is returned the device is read to its end, unless the fault is a lack of memory or its own
 abbrev pub OnceLogRead : (log_read : Type 0) → Fault → Type 0
 OnceLogRead log_read NoResource = ⊤
 OnceLogRead log_read ReadLog = ⊤
 OnceLogRead log_read e = log_read
 
--- the same for a recovery: of a fault of the store's device only if that was not read to its end either, and not of one of writing or of
--- the options
+-- the same for a recovery. Faults of writing and of the options do not count. A fault of the store's device may also come after the store was
+-- read to its end
 abbrev pub LogComesFirst : (log_read store_read : Type 0) → Fault → Type 0
 LogComesFirst log_read store_read NoResource = ⊤
 LogComesFirst log_read store_read ReadLog = ⊤

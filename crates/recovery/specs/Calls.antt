@@ -70,10 +70,6 @@ ForRest held kept count P = (text : List ℕ) → held ≡ Some text → length 
 abbrev pub ForPiece : Option (List ℕ) → (offset : ℕ) → (buffer : List ℕ) → (List ℕ → Type 0) → Type 0
 ForPiece held offset buffer P = (text : List ℕ) → held ≡ Some text → P (take (length buffer) (drop offset text))
 
--- P is true of all that it holds, as bytes that are known
-abbrev pub ForText : {A : Type 0} → Option (List ℕ) → (Option (List ℕ) → A → Type 0) → A → Type 0
-ForText held P x = (text : List ℕ) → held ≡ Some text → P (Some text) x
-
 -- P is true if it holds as many from an offset on
 abbrev pub ForPieceHeld : Option (List ℕ) → (offset : ℕ) → (buffer : List ℕ) → Type 0 → Type 0
 ForPieceHeld held offset buffer P = ForHeld held (offset + length buffer) P

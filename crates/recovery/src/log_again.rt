@@ -32,9 +32,8 @@ const FRAMES: usize = (1 << 18) * (1 + LONGEST_FRAME / (1 << 18));
 /// How many bytes of a log are in memory at once: the frames, and a header before them.
 pub const ROOM: usize = BASED_HEADER_BYTES + FRAMES;
 
-/// How many bytes of a log are in memory at once if it is read only to see whether its device
-/// fails.
-const SMALL_ROOM: usize = 4096;
+/// How many bytes of a log are in memory at once if it is read only because its device may fail.
+const SMALL_ROOM: usize = 1 << 12;
 
 /// A log that is read in pieces has fewer bytes than the sum of this and the length of the room.
 const LONGEST_LOG: u64 = 1 << 63;
