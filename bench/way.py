@@ -139,7 +139,14 @@ passes/marks.rt          end       Marks::end
 passes/fresh.rt          end       Marks::end
 passes/gather.rt         begin     Gathering::begin
 recovery/log_again.rt    read      -
-device/again.rt          read_at   FileSource::read_at
+device/again.rt          read_at   FileSource::read_at, HeldStore::read_at
+recovery/store_changes.rt take     LsnReader::take
+recovery/store_changes.rt finish   LsnReader::finish
+recovery/store_changes.rt flush    FileSink::flush
+recovery/copying.rt      flush     FileSink::flush
+held_store/held.rt       extend    Images::extend
+held_store/held.rt       copy_from HeldStore::copy_from, Images::copy_from
+held_store/images.rt     push      Images::push
 words/refusal.rt         number    Fault::number
 words/fault.rt           number    Fault::number
 redo/unthreaded.rt       by_number Parting::by_number
@@ -170,7 +177,7 @@ CUTS = {
     'in place': '''aries/program.rt:run_recovery aries/left.rt:continue_again NewTail::keep NewTail::torn NewTail::write_whole
         job_files/notices.rt''',
     'in pieces': 'recovery/devices.rt:recover',
-    'in memory': 'recovery/copying.rt recovery/by_pieces.rt aries/files.rt:is_large',
+    'in memory': 'recovery/copying.rt recovery/by_pieces.rt aries/files.rt:is_large aries/files.rt:has_low_lsns recovery/log_again.rt:hold_store',
     'an audit': '''aries/program.rt:run_recovery aries/in_place.rt recovery/in_place.rt aries/program.rt:name_and_run
         command/job.rt:recover_job
         recovery/texts.rt:audit_texts_over''',
@@ -189,12 +196,12 @@ CUTS = {
 FEW = ['nothing fails', 'no checkpoint', 'updates and commits alone are read']
 # each way: its name, the most functions that it is to have, where it begins, and what it does not take
 WAYS = [
-    ('recover, 3 records', 315, 'aries_cli/main.rt:main', FEW + ['a recovery', 'new files', 'in pieces', 'one worker']),
-    ('recover in place, 3 records', 358, 'aries_cli/main.rt:main', FEW + ['a recovery', 'in place', 'in pieces', 'one worker']),
-    ('recover in memory, 3 records, 1 worker', 284, 'aries_cli/main.rt:main', FEW + ['a recovery', 'new files', 'in memory', 'one worker']),
-    ('recover in memory, 3 records, 4 workers', 319, 'aries_cli/main.rt:main',
+    ('recover, 3 records', 343, 'aries_cli/main.rt:main', FEW + ['a recovery', 'new files', 'in pieces', 'one worker']),
+    ('recover in place, 3 records', 386, 'aries_cli/main.rt:main', FEW + ['a recovery', 'in place', 'in pieces', 'one worker']),
+    ('recover in memory, 3 records, 1 worker', 281, 'aries_cli/main.rt:main', FEW + ['a recovery', 'new files', 'in memory', 'one worker']),
+    ('recover in memory, 3 records, 4 workers', 316, 'aries_cli/main.rt:main',
      FEW + ['a recovery', 'new files', 'in memory', 'several workers', 'a short log']),
-    ('recover in memory, 100 MB with a checkpoint, 4 workers', 372, 'aries_cli/main.rt:main',
+    ('recover in memory, 100 MB with a checkpoint, 4 workers', 368, 'aries_cli/main.rt:main',
      ['nothing fails', 'a recovery', 'new files', 'in memory', 'several workers', 'a long log']),
     ('aries_recover (C)', 164, 'aries_c/recovered.rt:aries_recover', FEW + ['no threads']),
     ('audit, with a checkpoint', 238, 'aries_cli/main.rt:main', ['nothing fails', 'an audit']),
