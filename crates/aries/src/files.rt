@@ -22,18 +22,18 @@ use wal::{BASED_HEADER_BYTES, LARGEST_BASE, read_log};
 /// A log of fewer bytes than this is short: starting threads takes longer than they save.
 const SHORT: usize = 16 << 20;
 
-/// A store of more bytes than this is large: it is not in memory as a whole.
+/// A store of more bytes than this is large: it is not read into memory.
 const LARGE: u64 = 16 << 20;
 
 /// How a recovery reads its files.
 #[derive(Clone, Copy, Drop)]
 enum Reading {
-    /// Each is in memory as a whole.
+    /// Both are in memory as a whole.
     Whole,
-    /// The log is read in pieces.
+    /// The log is read in pieces, and the store into memory.
+    StoreHeld,
+    /// Both are read in pieces.
     Pieces,
-    /// The log and a large store are read in pieces.
-    AllPieces,
 }
 
 /// What a job reads.
@@ -108,8 +108,8 @@ pub fn is_large<F: OpenFile>(store: &F) -> bool {
 
 /// How an open log and an open store are to be read. A log is read in pieces if it is a regular
 /// file, which can be read again, and none of its LSNs is above the largest base LSN. Then a large
-/// store in a regular file is read in pieces too. `ReadLog` if the header of the log could not be
-/// read.
+/// store in a regular file is read in pieces too, and any other into memory. `ReadLog` if the header
+/// of the log could not be read.
 fn reading_of<C: Clock>(
     clock: &C,
     alloc: Global,
@@ -125,9 +125,9 @@ fn reading_of<C: Clock>(
         return Ok(Reading::Whole);
     }
     Ok(if is_large(store) {
-        Reading::AllPieces
-    } else {
         Reading::Pieces
+    } else {
+        Reading::StoreHeld
     })
 }
 
@@ -146,7 +146,7 @@ fn recover_made<R: Files<File = File> + Clock + Threads + Sync>(
     let mut out_log = FileSink::new(NotedFile::new(new_log, rt, &new.log));
     let mut out_store = FileSink::new(NotedFile::new(new_store, rt, &new.store));
     match reading {
-        Reading::AllPieces => recover_copying(
+        Reading::Pieces => recover_copying(
             alloc,
             &mut log,
             &mut store,
@@ -154,7 +154,7 @@ fn recover_made<R: Files<File = File> + Clock + Threads + Sync>(
             &mut out_store,
             options,
         ),
-        Reading::Pieces => {
+        Reading::StoreHeld => {
             let mut held = hold_store(alloc, &mut log, &mut store)?;
             recover_copying(
                 alloc,
@@ -202,8 +202,8 @@ fn empty_after(fault: Fault, new_log: io::Result<File>, new_store: io::Result<Fi
 ///
 /// A log in a regular file is read in pieces by one thread, and copied as the new log is written.
 /// Then a store in a regular file of more than 16 MiB is read in pieces too, twice; no store of the
-/// default profile is so large. Any other log is read into memory; then one worker does all if it
-/// may and the log is short.
+/// default profile is so large. Any other store is read into memory first. A log that is no regular
+/// file is read into memory; then one worker does all if it may and the log is short.
 pub fn recover_files<R: Files<File = File> + Clock + Threads + Sync>(
     rt: &R,
     alloc: Global,
