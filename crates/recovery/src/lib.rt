@@ -3,7 +3,8 @@
 //!
 //! Entry points: [`recovery_alone`] from buffer to buffer; [`recover`] over devices, with both logs
 //! and both stores in memory; [`recover_copying`] and, in place, [`recover_in_place`] with a piece
-//! of the log and one of the store in memory. [`hold_store`] reads a store into memory for these two.
+//! of the log and one of the store in memory. [`hold_store`] reads a store into memory for these
+//! two.
 //!
 //! The promise: on lawful bytes the new log is the old one and its tail, and the new store has
 //! exactly the effects of the committed and in-doubt transactions. A recovery may be killed at any
