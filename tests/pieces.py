@@ -177,6 +177,11 @@ def damaged():
     yield "no store", log, store[:-1]
     yield "no store, and a bad log", log[:PIECE + 50] + b"\xff" * 60, store[:-1]
     yield "no header", b"ARIESLG3" + log[8:], store
+    # A store of more than 16 MiB is read from its file; none of this profile is so large.
+    too_long = store + bytes(1 << 24)
+    yield "a store of more than 16 MiB", log, too_long
+    yield "a store of more than 16 MiB, and a bad log", log[:PIECE + 50] + b"\xff" * 60, too_long
+    yield "a store of more than 16 MiB without a header", log, b"X" + too_long[1:]
 
 
 def small_rows():
