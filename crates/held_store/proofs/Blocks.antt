@@ -6,7 +6,7 @@ use Rattle.std.proofs.lemmas.Bool.{cases_lt}
 use Rattle.std.proofs.lemmas.Grind.{flat_map-append}
 use Rattle.std.proofs.Math.ListN.{drop_of_length-le}
 use Rattle.std.proofs.lemmas.List.{append-nil, drop_at, take_at, drop_more, drop-append-le, drop-replicate, take-append-le, take_all, take-replicate, length-replicate, replicate-append-replicate}
-use Rattle.std.proofs.lemmas.List.Elements.{All-push, All-tail, All-take}
+use Rattle.std.proofs.lemmas.List.Elements.{All-tail, All-take}
 use Rattle.page.specs.declared.profile.TheConstants.{PAGE_BYTES}
 use Rattle.page.proofs.Files.{length-pieces}
 use Rattle.held_store.specs.declared.block.Block.{Block}
@@ -48,7 +48,7 @@ pub kept_part : (all kept : List ℕ) (block : Block) → all ≡ kept → take 
 kept_part all kept block e =
     ap (take block.kept) (take_all (length all - block.start) (drop block.start all) (omega (arith, length-drop block.start all))) ∙ ap (λ (t : List ℕ). take block.kept (drop block.start t)) e
 
--- bytes that come behind change no image
+-- bytes that are added at the end change no image
 pub same_image : (kept more : List ℕ) (block : Block) → IsWithin kept block → image_of (kept ++ more) block ≡ image_of kept block
 same_image kept more block w =
     let behind : drop block.start (kept ++ more) ≡ drop block.start kept ++ more = drop-append-le block.start kept more (omega (arith, w.held)) in
@@ -65,7 +65,7 @@ same_images kept more (block ∷ blocks) w =
 pub length_images : (kept : List ℕ) (blocks : List Block) → All (IsWithin kept) blocks → length (images_of kept blocks) ≡ PAGE_BYTES * length blocks
 length_images kept blocks w = length-pieces (image_of kept) PAGE_BYTES blocks (λ i d lt. length_image kept (get_or blocks i d) (w i d lt))
 
--- ONE MORE IMAGE, of which the bytes come behind
+-- ONE MORE IMAGE, whose bytes are added at the end
 module _ (kept part : List ℕ) (blocks : List Block) (block : Block) (w : All (IsWithin kept) blocks) (start : block.start ≡ length kept) (count : block.kept ≡ length part) where
   last_image : image_of (kept ++ part) block ≡ padded part
   last_image = ap padded (ap (λ n. take block.kept (drop n (kept ++ part))) start ∙ ap (take block.kept) (drop_at kept part (length kept) refl) ∙ take_all block.kept part (omega (arith, count)))

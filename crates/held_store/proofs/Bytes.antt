@@ -1,12 +1,11 @@
--- The bytes of a header and of the images behind it.
-use Rattle.std.proofs.Common.{◌≡◌, ℕ, ◌+◌, ◌-◌, ◌%◌, ◌≤◌, List, [], ◌++◌, length, take, drop, replicate, Option, Some, None, sym, subst, ap, ap₂, ◌∙◌, arith, append_assoc, length-append, length-drop}
+-- The bytes of a header and of the images after it.
+use Rattle.std.proofs.Common.{◌≡◌, ℕ, ◌+◌, ◌-◌, ◌≤◌, List, [], ◌++◌, length, take, drop, replicate, Option, Some, None, sym, subst, ap, ap₂, ◌∙◌, arith, append_assoc, length-append, length-drop}
 use Rattle.std.proofs.Math.Seq.{drop-append-add, take-append-add}
 use Rattle.std.proofs.Math.ListN.{drop_of_length-le}
 use Rattle.std.proofs.lemmas.List.{append-nil, drop-drop, drop-append-le, take-append-le, take-append-drop, take-take, take_all, take_at, drop-take}
 use Rattle.std.specs.Prelude.{IfSome}
 use Rattle.std.specs.Io.KnownBytes.{Consumes, IsAtEnd}
 use Rattle.std.proofs.KnownBytes.{Consumes-trans}
-use Rattle.page.specs.declared.profile.TheConstants.{PAGE_BYTES}
 use Rattle.page.specs.declared.sizes.TheConstants.{STORE_HEADER_BYTES}
 use Rattle.held_store.specs.Images.{Grows}
 
@@ -26,7 +25,7 @@ all_left None now bytes read end = tt
 all_left (Some xs) None bytes read end = absurd read
 all_left (Some xs) (Some ys) bytes read end = sym (read ∙ ap (λ (t : List ℕ). bytes ++ t) end ∙ append-nil bytes)
 
--- a header, and images behind it
+-- a header, and images after it
 pub all_held : (old between now : Option (List ℕ)) (header images : List ℕ) (count behind size : ℕ) → count ≡ length header → size ≡ behind + count → Consumes old between (take count header)
     → Consumes between now (take behind images) → IsAtEnd now → IfSome old (λ left. take size (header ++ images) ≡ left)
 all_held old between now header images count behind size e sum first next end =

@@ -1,8 +1,8 @@
 -- Where the cells of a page's image end.
-use Rattle.std.proofs.Common.{◌≡◌, ℕ, ◌+◌, ◌*◌, ◌-◌, ◌<◌, ◌≤◌, ◌^◌, List, [], ◌∷◌, ◌++◌, length, get_or, take, drop, replicate, Some, None, refl, sym, ap, ap₂, ◌∙◌, arith, length-append}
+use Rattle.std.proofs.Common.{◌≡◌, ℕ, ◌+◌, ◌*◌, ◌-◌, ◌<◌, ◌^◌, List, [], ◌∷◌, ◌++◌, length, get_or, take, drop, replicate, Some, None, refl, sym, ap, ap₂, ◌∙◌, arith, length-append}
 use Rattle.std.specs.Int.{w16, to_be_bytes, from_be_bytes}
 use Rattle.std.proofs.lemmas.Nat.{from_be_bytes-to_be_bytes_2}
-use Rattle.std.proofs.lemmas.List.{get_or-drop, get_or-take, get_or_append_left, drop_at, drop-drop, length-replicate, take_all}
+use Rattle.std.proofs.lemmas.List.{get_or-drop, get_or-take, get_or_append_left, drop_at, drop-drop, length-replicate}
 use Rattle.std.proofs.lemmas.List.Elements.{All-get_or}
 use Rattle.page.specs.declared.page.Page.{Page}
 use Rattle.page.specs.declared.profile.TheConstants.{PAGE_BYTES, SLOTS}
@@ -61,7 +61,7 @@ module _ (image : List ℕ) (page : Page) (s : SpellsPage image page) where
       let more = cells_more page.slots i None (omega (arith, lt, s.fits.slots)) in
       omega (arith, e, is ∙ length_there i lt, sum, ap (λ (t : List ℕ). length t) more, length-append (cells (take i page.slots)) (cell slot))
 
-  -- zeros are behind the cells
+  -- zeros follow the cells
   pub zeros_behind : (end : ℕ) → end ≡ CELLS_AT + length (cells page.slots) → drop end image ≡ replicate (length (drop end image)) 0
   zeros_behind end e =
       let inner = cells page.slots in

@@ -1,4 +1,4 @@
--- The images so far are held behind those before.
+-- The images so far are held after those that were there before.
 use Rattle.std.proofs.Common.{◌≡◌, ◌*◌, ◌++◌, take}
 use Rattle.page.specs.declared.profile.TheConstants.{PAGE_BYTES}
 use Rattle.held_store.specs.Images.{images_text}
