@@ -144,6 +144,7 @@ recovery/store_changes.rt take     LsnReader::take
 recovery/store_changes.rt finish   LsnReader::finish
 recovery/store_changes.rt flush    FileSink::flush
 recovery/copying.rt      flush     FileSink::flush
+recovery/in_pieces.rt    write     CopiedLog::write, ContinuedLog::write
 held_store/held.rt       extend    Images::extend
 held_store/held.rt       copy_from HeldStore::copy_from, Images::copy_from
 held_store/images.rt     push      Images::push
@@ -174,10 +175,10 @@ CUTS = {
     'a recovery': 'aries/files.rt:audit_files aries/files.rt:read_file aries/program.rt:run_audit command/job.rt:audit_job',
     'new files': '''aries/in_place.rt aries/names.rt aries/left.rt aries/new_tail.rt recovery/in_place.rt recovery/tail_file.rt
         aries/program.rt:name_and_run aries/program.rt:text_of''',
-    'in place': '''aries/program.rt:run_recovery aries/left.rt:continue_again NewTail::keep NewTail::torn NewTail::write_whole
+    'in place': '''recovery/copying.rt aries/program.rt:run_recovery aries/left.rt:continue_again NewTail::keep NewTail::torn NewTail::write_whole
         job_files/notices.rt''',
     'in pieces': 'recovery/devices.rt:recover',
-    'in memory': 'recovery/copying.rt recovery/by_pieces.rt aries/files.rt:is_large aries/files.rt:has_low_lsns recovery/log_again.rt:hold_store',
+    'in memory': 'recovery/copying.rt recovery/by_pieces.rt recovery/in_pieces.rt aries/in_pieces.rt aries/files.rt:has_low_lsns',
     'an audit': '''aries/program.rt:run_recovery aries/in_place.rt recovery/in_place.rt aries/program.rt:name_and_run
         command/job.rt:recover_job
         recovery/texts.rt:audit_texts_over''',

@@ -23,6 +23,7 @@ NUMBERS = {4095, 4096, 4097, 1023, 1024, 1025, 15, 16, 17, 47, 48, 49, 64, 80, 2
 
 OTHER = {
     "aries/src/files.rt": {16: "MiB of a short log"},
+    "aries/src/in_pieces.rt": {16: "MiB of a store that is not large"},
     "aries/src/new_tail.rt": {16: "an offset in a head"},
     "aries_c/specs/Fault.antt": {64: "the number of a fault"},
     "aries_c/specs/Journaling.antt": {80: "the number of a refusal"},

@@ -3,13 +3,12 @@
 ghost use Rattle.std.specs.Prelude.{◌≢◌};
 ghost use Rattle.page.specs.declared.fault.Fault.TheVariants.{NoResource};
 
+use crate::in_pieces::recover_opened;
 use crate::new_file::{make, open, sync_folder};
 use device::{FileSink, FileSource, Reread, Source, read_full_at};
 use job_files::{NotedFile, Notes};
 use page::Fault;
-use recovery::{
-    Report, audit_texts, audit_texts_over, hold_store, read_source, recover, recover_copying,
-};
+use recovery::{CopiedLog, Report, audit_texts, audit_texts_over, read_source, recover};
 use redo::OpenGate;
 use restart::Options;
 use std::alloc::Global;
@@ -21,20 +20,6 @@ use wal::{BASED_HEADER_BYTES, LARGEST_BASE, read_log};
 
 /// A log of fewer bytes than this is short: starting threads takes longer than they save.
 const SHORT: usize = 16 << 20;
-
-/// A store of more bytes than this is large: it is not read into memory.
-const LARGE: u64 = 16 << 20;
-
-/// How a recovery reads its files.
-#[derive(Clone, Copy, Drop)]
-enum Reading {
-    /// Both are in memory as a whole.
-    Whole,
-    /// The log is read in pieces, and the store into memory.
-    StoreHeld,
-    /// Both are read in pieces.
-    Pieces,
-}
 
 /// What a job reads.
 #[derive(Drop)]
@@ -98,37 +83,18 @@ pub fn has_low_lsns<C: Clock>(
     }
 }
 
-/// Whether an open store is large, and a regular file, which can be read again.
-pub fn is_large<F: OpenFile>(store: &F) -> bool {
-    match store.metadata() {
-        Ok(metadata) => metadata.is_file() && metadata.len() > LARGE,
-        Err(_) => false,
-    }
-}
-
-/// How an open log and an open store are to be read. A log is read in pieces if it is a regular
-/// file, which can be read again, and none of its LSNs is above the largest base LSN. Then a large
-/// store in a regular file is read in pieces too, and any other into memory. `ReadLog` if the header
-/// of the log could not be read.
-fn reading_of<C: Clock>(
+/// Whether an open log is read in pieces: it is a regular file, which can be read again, and none of
+/// its LSNs is above the largest base LSN. `ReadLog` if its header could not be read.
+fn is_read_in_pieces<C: Clock>(
     clock: &C,
     alloc: Global,
     log: &File,
-    store: &File,
     notes: &Notes,
-) -> Result<Reading, Fault> {
+) -> Result<bool, Fault> {
     match log.metadata() {
-        Ok(metadata) if metadata.is_file() => {}
-        _ => return Ok(Reading::Whole),
+        Ok(metadata) if metadata.is_file() => has_low_lsns(clock, alloc, log, notes),
+        _ => Ok(false),
     }
-    if !has_low_lsns(clock, alloc, log, notes)? {
-        return Ok(Reading::Whole);
-    }
-    Ok(if is_large(store) {
-        Reading::Pieces
-    } else {
-        Reading::StoreHeld
-    })
 }
 
 /// Recovers from open files into new ones that were made.
@@ -140,45 +106,35 @@ fn recover_made<R: Files<File = File> + Clock + Threads + Sync>(
     options: &Options,
     may_be_one: bool,
 ) -> Result<Report, Fault> {
-    let reading = reading_of(rt, alloc, &log, &store, &old.log)?;
+    let in_pieces = is_read_in_pieces(rt, alloc, &log, &old.log)?;
     let mut log = FileSource::sized(NotedFile::new(log, rt, &old.log));
-    let mut store = FileSource::new(NotedFile::new(store, rt, &old.store));
     let mut out_log = FileSink::new(NotedFile::new(new_log, rt, &new.log));
     let mut out_store = FileSink::new(NotedFile::new(new_store, rt, &new.store));
-    match reading {
-        Reading::Pieces => recover_copying(
+    if in_pieces {
+        let mut new_log = CopiedLog { sink: out_log };
+        let store = (store, &old.store);
+        return recover_opened(
+            rt,
             alloc,
             &mut log,
-            &mut store,
-            &mut out_log,
+            store,
+            &mut new_log,
             &mut out_store,
             options,
-        ),
-        Reading::StoreHeld => {
-            let mut held = hold_store(alloc, &mut log, &mut store)?;
-            recover_copying(
-                alloc,
-                &mut log,
-                &mut held,
-                &mut out_log,
-                &mut out_store,
-                options,
-            )
-        }
-        Reading::Whole => {
-            let options = options_for(options, may_be_one, log.hint());
-            recover(
-                rt,
-                alloc,
-                &mut log,
-                &mut store,
-                &mut out_log,
-                &mut out_store,
-                &options,
-                &OpenGate,
-            )
-        }
+        );
     }
+    let mut store = FileSource::new(NotedFile::new(store, rt, &old.store));
+    let options = options_for(options, may_be_one, log.hint());
+    recover(
+        rt,
+        alloc,
+        &mut log,
+        &mut store,
+        &mut out_log,
+        &mut out_store,
+        &options,
+        &OpenGate,
+    )
 }
 
 /// Empties the new files after a fault, unless it is that of writing one of them: then nothing of a

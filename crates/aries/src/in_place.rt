@@ -11,7 +11,8 @@
 ghost use Rattle.std.specs.Prelude.{◌≢◌};
 ghost use Rattle.page.specs.declared.fault.Fault.TheVariants.{NoResource};
 
-use crate::files::{has_low_lsns, is_large};
+use crate::files::has_low_lsns;
+use crate::in_pieces::recover_opened;
 use crate::left::{Finished, finish, remove_left};
 use crate::names::{Opened, PlaceFiles, open_in_place, turn_down};
 use crate::new_file::{make, refuse, remove, sync_folder, sync_found};
@@ -19,7 +20,7 @@ use crate::new_tail::{Cut, NewTail, make_tail};
 use device::{FileLog, FileSink, FileSource};
 use job_files::{Call, NotedFile, Notes, Refusal, folder_of};
 use page::Fault;
-use recovery::{Report, hold_store, recover_in_place};
+use recovery::{ContinuedLog, Report};
 use restart::Options;
 use std::alloc::Global;
 use std::cell::Cell;
@@ -85,31 +86,19 @@ fn recover_made<'x, R: Files<File = File> + Clock>(
         lock,
         store,
     } = opened;
-    let is_large = is_large(&store);
     let new_tail = NewTail::new(rt, alloc, files, (new_tail, lock), cut);
     let mut log = FileSource::sized(NotedFile::new(log, rt, &files.log));
-    let mut store = FileSource::new(NotedFile::new(store, rt, &files.store));
-    let mut tail = FileSink::new(new_tail);
-    let mut out_log = FileLog::new(NotedFile::new(out_log, rt, &files.out_log));
+    let mut new_log = ContinuedLog {
+        tail: FileSink::new(new_tail),
+        log: FileLog::new(NotedFile::new(out_log, rt, &files.out_log)),
+    };
     let mut out_store = FileSink::new(NotedFile::new(new_store, rt, &files.new_store));
-    if is_large {
-        return recover_in_place(
-            alloc,
-            &mut log,
-            &mut store,
-            &mut tail,
-            &mut out_log,
-            &mut out_store,
-            options,
-        );
-    }
-    let mut held = hold_store(alloc, &mut log, &mut store)?;
-    recover_in_place(
+    recover_opened(
+        rt,
         alloc,
         &mut log,
-        &mut held,
-        &mut tail,
-        &mut out_log,
+        (store, &files.store),
+        &mut new_log,
         &mut out_store,
         options,
     )
@@ -129,7 +118,7 @@ fn place_store<R: Files<File = File>>(rt: &R, files: &PlaceFiles) -> Result<(), 
 
 /// Makes the new store, recovers, and puts the store in its place. After a fault the new store is
 /// gone.
-fn recover_opened<'x, R: Files<File = File> + Clock>(
+fn recover_and_place<'x, R: Files<File = File> + Clock>(
     rt: &'x R,
     alloc: Global,
     files: &'x PlaceFiles<'x>,
@@ -170,7 +159,7 @@ fn finish_and_recover<'x, R: Files<File = File> + Clock>(
     };
     let finished = finish(rt, alloc, files, &opened.log, user)?;
     let cut = Cell::new(None);
-    let report = recover_opened(rt, alloc, files, opened, new_tail, options, &cut)?;
+    let report = recover_and_place(rt, alloc, files, opened, new_tail, options, &cut)?;
     Ok(Done {
         report,
         finished,

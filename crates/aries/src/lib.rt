@@ -10,6 +10,7 @@
 //!
 //! - `program`: from the words to the exit status.
 //! - `files`: from two files to two files, or an audit; in memory or in pieces.
+//! - `in_pieces`: a recovery in pieces, for new files and in place.
 //! - `new_file`: owners and rights of new files, and how their names reach the disk.
 //! - `in_place`: a recovery in place, which syncs what it finds, finishes it, and then recovers.
 //! - `names`: which files a run in place may change.
@@ -19,6 +20,7 @@
 #![tactic(auto)]
 
 mod files;
+mod in_pieces;
 mod in_place;
 mod left;
 mod names;
@@ -37,10 +39,10 @@ pub use device::{
 pub use held_store::HeldStore;
 pub use page::{Fault, Page, Store};
 pub use recovery::{
-    Recovery, Report, TailFile, audit_texts, audit_texts_over, continue_log, hold_store,
-    no_fault_of_a_recovery, no_fault_of_lawful_texts, no_fault_of_lawful_texts_over,
-    one_audit_fault, one_audit_fault_over, one_recovery, one_recovery_fault, recover,
-    recover_copying, recover_in_place, recovery_alone, report_text,
+    Continuation, ContinuedLog, CopiedLog, NewLog, Recovery, Report, TailFile, audit_texts,
+    audit_texts_over, continue_log, hold_store, no_fault_of_a_recovery, no_fault_of_lawful_texts,
+    no_fault_of_lawful_texts_over, one_audit_fault, one_audit_fault_over, one_recovery,
+    one_recovery_fault, recover, recover_in_pieces, recovery_alone, report_text,
 };
 pub use redo::{Gate, OpenGate, Parting};
 pub use restart::{

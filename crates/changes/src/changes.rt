@@ -105,6 +105,16 @@ impl Changes {
         Ok(())
     }
 
+    /// Takes memory for the values of this many slots into which nothing was put so far. The only
+    /// error is `NoResource`. The changes stay the same.
+    pub fn reserve(&mut self, slots: usize) -> Result<(), Fault>
+        ensures same { self.new ≡ self.old }
+        ensures err { IsOkUnless result NoResource }
+    {
+        self.values.reserve_exact(slots)?;
+        Ok(())
+    }
+
     /// Sets the PageLSN of a page.
     pub fn set_lsn(&mut self, page: usize, lsn: u64)
         requires { page < length self.old }

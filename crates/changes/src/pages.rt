@@ -32,6 +32,14 @@ pub trait Pages {
         ensures wide { (stored shown : List Page) (d : Page) → shows self.now stored shown
             → length (slice_index_or shown page d).slots ≡ SLOTS };
 
+    /// Takes memory for values that will be put into this many slots, so that it is taken once. The
+    /// only error is `NoResource`. The pages stay the same.
+    fn reserve(&mut self, slots: usize) -> Result<(), Fault>
+        ensures count { count self.new ≡ count self.old }
+        ensures same { (given shown : List Page) → shows self.old given shown
+            → shows self.new given shown }
+        ensures err { IsOkUnless result NoResource };
+
     /// Puts a value into a slot of a page, or makes the slot absent, as the record at this LSN did.
     /// The PageLSN becomes this LSN. The only error is `NoResource`; nothing has changed then.
     fn put(&mut self, page: usize, slot: usize, value: Option<Value>, lsn: u64) -> Result<(), Fault>
@@ -73,6 +81,10 @@ impl Pages for Vec<Page> {
         Vec::len(self)
     }
 
+    fn reserve(&mut self, _slots: usize) -> Result<(), Fault> {
+        Ok(())
+    }
+
     fn put(
         &mut self,
         page: usize,
@@ -107,6 +119,10 @@ impl Pages for Changes {
 
     fn len(&self) -> usize {
         Changes::len(self)
+    }
+
+    fn reserve(&mut self, slots: usize) -> Result<(), Fault> {
+        Changes::reserve(self, slots)
     }
 
     fn put(

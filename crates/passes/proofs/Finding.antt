@@ -8,9 +8,9 @@ use Rattle.log_laws.specs.Records.{lsn_before, LogContent}
 use Rattle.wal.specs.Reads.{Reads}
 use Rattle.log_laws.proofs.Histories.{base_of_log, size_of_log}
 use Rattle.pieces.specs.declared.mark.Mark.{Mark}
-use Rattle.pieces.specs.Pieces.{IsMark}
+use Rattle.pieces.specs.Pieces.{IsFirstMark, IsMark}
 use Rattle.pieces.proofs.Beginnings.{same_start}
-use Rattle.passes.specs.Marks.{AreInReach, AreFound}
+use Rattle.passes.specs.Marks.{HasMark, IsInReach, AreInReach, AreFound}
 use Rattle.passes.proofs.Reached.{told}
 use Rattle.wal.specs.declared.sizes.TheConstants.{BASED_HEADER_BYTES}
 
@@ -29,9 +29,9 @@ first_bytes held text buffer count is reads ends le =
 
 -- THE MARKS SO FAR
 pub record AreFoundSoFar (text : List ℕ) (room : ℕ) (marks : List Mark) : Type 0 where
-  pub each : (k : ℕ) (d : Mark) → k < length marks → (before : LogContent) × IsMark text before (get_or marks k d)
+  pub each : (k : ℕ) (d : Mark) → k < length marks → HasMark text (get_or marks k d)
   pub reach : AreInReach room marks
-  pub first : (d : Mark) → (before : LogContent) × (before.records ≡ []) × IsMark text before (get_or marks 0 d)
+  pub first : (d : Mark) → IsFirstMark text (get_or marks 0 d)
 
 pub found_first : (text : List ℕ) (room : ℕ) (mark : Mark) (before : LogContent) → before.records ≡ [] → IsMark text before mark → AreFoundSoFar text room (mark ∷ [])
 found_first text room mark before none is = record {
@@ -41,8 +41,8 @@ found_first text room mark before none is = record {
 }
 
 pub found_more : (text : List ℕ) (room : ℕ) (marks : List Mark) (next end : Mark) (after : LogContent) → 0 < length marks → ((d : Mark) → end ≡ get_or marks (length marks - 1) d) → IsMark text after next
-    → next.offset ≤ end.offset + (room - BASED_HEADER_BYTES) → BASED_HEADER_BYTES ≤ room → AreFoundSoFar text room marks → AreFoundSoFar text room (marks ++ next ∷ [])
-found_more text room marks next end after some end_is is within wide before =
+    → IsInReach room end next → AreFoundSoFar text room marks → AreFoundSoFar text room (marks ++ next ∷ [])
+found_more text room marks next end after some end_is is within before =
     let size : length (marks ++ next ∷ []) ≡ suc (length marks) = omega (arith, length-append marks (next ∷ [])) in
     let last : (d : Mark) → get_or (marks ++ next ∷ []) (length marks) d ≡ next = λ d. get_or-append_seam marks next [] d in
     record {
@@ -66,7 +66,6 @@ found_more text room marks next end after some end_is is within wide before =
                 omega (
                   arith,
                   within,
-                  wide,
                   ap (λ (m : Mark). m.offset) (ap (λ n. get_or (marks ++ next ∷ []) n d) at ∙ last d),
                   ap (λ (m : Mark). m.offset) (get_or_append_left marks (next ∷ []) d k (omega (arith, at))),
                   ap (λ (m : Mark). m.offset) (end_is d),

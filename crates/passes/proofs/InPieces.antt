@@ -1,10 +1,10 @@
 -- A restart in pieces: the faults of its parts are its faults.
-use Rattle.std.proofs.Common.{◌≡◌, ◌≤◌, ◌<◌, ◌-◌, ◌++◌, ℕ, List, All, length, take, get_or, refl, sym, ap, ◌∙◌, subst, inl, inr, arith, length-append, length-take}
+use Rattle.std.proofs.Common.{Option, Some, ◌≡◌, ◌≤◌, ◌<◌, ◌-◌, ◌++◌, ℕ, List, All, length, take, get_or, refl, sym, ap, ◌∙◌, subst, inl, inr, arith, length-append, length-take}
 use Rattle.std.proofs.lemmas.List.{append-nil, nil_from_length}
 use Rattle.wal.specs.Reads.{Reads, log_text}
 use Rattle.wal.proofs.Whole.{one_reading}
 use Rattle.pieces.specs.declared.mark.Mark.{Mark}
-use Rattle.passes.specs.Marks.{AreMarks, AreFound, LogCause}
+use Rattle.passes.specs.Marks.{AreMarks, AreInReach, AreFound, LogCause}
 use Rattle.passes.proofs.Forward.{is_whole}
 use Rattle.passes.proofs.Reached.{marked_last}
 use Rattle.page.specs.declared.fault.Fault.{Fault}
@@ -28,7 +28,9 @@ use Rattle.passes.specs.declared.fault.PassFault.TheVariants as fault
 use Rattle.passes.specs.Marks.{IsResource}
 use Rattle.passes.specs.Tables.{TablesCause}
 use Rattle.passes.specs.Redoing.{RedoCause}
-use Rattle.passes.specs.InPieces.{ReadsAsLog, InPiecesCause, RestartCause, ShowRedone}
+use Rattle.passes.specs.Calls.{TextCause, FindsMarks}
+use Rattle.passes.specs.InPieces.{ReadsAsLog, InPiecesCause, RestartCause, ShowRedone, ForStore, StopsForward}
+use Rattle.passes.proofs.Nexts.{log_alone}
 
 -- one worker is a number that redo may have
 one : AreWorkers 1
@@ -134,3 +136,24 @@ in_pieces_fault text whole torn before reads (fault.Fault e) cause = inr (whole,
 pub text_fault : (text : List ℕ) (before : StoreContent) (e : PassFault) → LogCause text e → InPiecesCause text before e
 text_fault text before fault.Failed cause = tt
 text_fault text before (fault.Fault e) cause = inl cause
+
+-- WHAT STOPS analysis and redo: a fault of the bytes
+module _ {P : Type 0} (pages : Pages P) (held : Option (List ℕ)) where
+  pub stops_at_text : (master : ℕ) (old : P) (e : PassFault) → TextCause held e → StopsForward pages held master old e
+  stops_at_text master old e cause = record {
+    lawful = λ base text whole torn is reads before stored named numbered shows lawful. log_alone text whole torn reads e (cause text is);
+    cause = λ text is before stored named numbered shows. text_fault text before e (cause text is);
+  }
+
+  -- or, when the marks are found, an error of a restart on the log and the store, which is a lack of a resource if both are lawful
+  pub stops_for : (room master : ℕ) (old : P) (marks : List Mark) (torn : ℕ) → FindsMarks held room marks torn → (e : PassFault)
+      → ((text : List ℕ) (whole : LogContent) (left : ℕ) → held ≡ Some text → Reads text whole left → AreMarks text whole marks → AreInReach room marks
+      → ForStore pages old master (λ before stored. RestartCause whole before e × ((base : BasePages) → Lawful base whole before → IsResource e))) → StopsForward pages held master old e
+  stops_for room master old marks torn found e why = record {
+    lawful = λ base text whole left is reads before stored named numbered shows lawful.
+        let all = found text is in
+        (why text whole left is reads (same_marks text room left torn marks whole all reads) all.reach before stored named numbered shows).1 base lawful;
+    cause = λ text is before stored named numbered shows.
+        let all = found text is in
+        in_pieces_fault text all.whole torn before all.reads e (why text all.whole torn is all.reads all.are all.reach before stored named numbered shows).0;
+  }

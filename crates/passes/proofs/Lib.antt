@@ -1,4 +1,5 @@
 pub mod Reached
+pub mod Calls
 pub mod Nexts
 pub mod Finding
 pub mod Forward

@@ -23,7 +23,8 @@ use Rattle.redo.specs.Passing.{TalliesSoFar, ListEach}
 use Rattle.redo.specs.Redone.{RedoFault}
 use Rattle.redo.proofs.Stretches.{skipped_from}
 use Rattle.redo.proofs.Passing.{tables_of_all, all_listed}
-use Rattle.passes.specs.Listing.{AreTalliedByAll, TalliedOrRefused}
+use Rattle.passes.specs.declared.fresh.ForwardScan.{ForwardScan}
+use Rattle.passes.specs.Listing.{AreTalliedByAll, IsTalliedTo, TalliedOrRefused}
 use Rattle.passes.proofs.Forward.{is_whole}
 use Rattle.passes.proofs.Listing.{fault_by_found}
 use Rattle.passes.proofs.Redoing.{tallied_first}
@@ -58,8 +59,17 @@ abbrev pub AnalysedSoFar : List ℕ → List Mark → SeenTables → Type 0
 AnalysedSoFar text marks tables = (d : Mark) → (before : LogContent) × IsMark text before (get_or marks (length marks - 1) d) × ((whole : History) → HasAnalysed 0 whole (history before) tables)
 
 -- what redo has found up to the last mark
-abbrev pub TalliedSoFar : List ℕ → List Page → List Mark → Option Fault → TalliesSoFar → Type 0
-TalliedSoFar text images marks missing scan = (whole : LogContent) (torn : ℕ) (d : Mark) → Reads text whole torn → TalliedOrRefused whole images (get_or marks (length marks - 1) d).lsn missing scan
+abbrev pub TalliedSoFar : List ℕ → List Page → List Mark → ForwardScan → Type 0
+TalliedSoFar text images marks scan = (whole : LogContent) (torn : ℕ) (d : Mark) → Reads text whole torn → IsTalliedTo whole images (get_or marks (length marks - 1) d).lsn scan
+
+-- at the last mark
+pub analysed_at : (text : List ℕ) (marks : List Mark) (tables : SeenTables) (mark : Mark) → ((d : Mark) → mark ≡ get_or marks (length marks - 1) d) → AnalysedSoFar text marks tables
+    → (before : LogContent) × IsMark text before mark × ((whole : History) → HasAnalysed 0 whole (history before) tables)
+analysed_at text marks tables mark is so_far = let own = so_far mark in (own.0, subst (IsMark text own.0) (sym (is mark)) own.1, own.2)
+
+pub tallied_at : (text : List ℕ) (images : List Page) (marks : List Mark) (scan : ForwardScan) (mark : Mark) → ((d : Mark) → mark ≡ get_or marks (length marks - 1) d) → TalliedSoFar text images marks scan
+    → (whole : LogContent) (torn : ℕ) → Reads text whole torn → IsTalliedTo whole images mark.lsn scan
+tallied_at text images marks scan mark is so_far whole torn reads = subst (λ n. IsTalliedTo whole images n scan) (sym (ap (λ (m : Mark). m.lsn) (is mark))) (so_far whole torn mark reads)
 
 -- with one more mark
 pub last_pushed : (marks : List Mark) (next d : Mark) → get_or (marks ++ next ∷ []) (length (marks ++ next ∷ []) - 1) d ≡ next

@@ -9,8 +9,9 @@ use Rattle.log_laws.specs.declared.start.LogStart.TheVariants.{Version2}
 use Rattle.wal.specs.Reads.{Reads}
 use Rattle.log_laws.proofs.Histories.{base_of_log, size_of_log}
 use Rattle.pieces.specs.declared.mark.Mark.{Mark}
-use Rattle.pieces.specs.Pieces.{IsMark, piece_text, ContinuesLog}
-use Rattle.passes.specs.Marks.{AreMarks}
+use Rattle.pieces.specs.Pieces.{IsMark, piece_text, ContinuesEach, ContinuesLog, HoldsPiece}
+use Rattle.passes.specs.Marks.{HasMark}
+use Rattle.wal.specs.declared.sizes.TheConstants.{BASED_HEADER_BYTES}
 use Rattle.pieces.proofs.Beginnings.{records_begin, same_start}
 
 -- what holds for the bytes of a device
@@ -30,6 +31,26 @@ pub piece_in_front : (text : List ℕ) (mark : Mark) (count : ℕ) → piece_tex
 piece_in_front text mark count =
     ap (λ (t : List ℕ). header_of (Version2 mark.lsn) ++ t)
     (sym (take-take count count (drop mark.offset text) (omega arith)) ∙ ap (take count) (sym (drop-take mark.offset count text)))
+
+-- A PIECE READ into a room is one of the bytes that the device holds
+pub piece_read : (held : Option (List ℕ)) (text room : List ℕ) (mark : Mark) (count : ℕ) → held ≡ Some text → HoldsPiece held mark count room → take count room ≡ piece_text text mark (count - BASED_HEADER_BYTES)
+piece_read held text room mark count is read = told held text (λ t. take count room ≡ piece_text t mark (count - BASED_HEADER_BYTES)) is read
+
+-- it continues the log before its mark
+module _ (text room : List ℕ) (before piece : LogContent) (mark : Mark) (count torn : ℕ) (own : IsMark text before mark) (within : count ≤ length room) (read : take count room ≡ piece_text text mark (count - BASED_HEADER_BYTES))
+    (goes : ContinuesEach (take count room) mark piece torn) where
+  size : length (take count room) - BASED_HEADER_BYTES ≡ count - BASED_HEADER_BYTES
+  size = omega (arith, length-take count room, within)
+
+  pub continues : ContinuesLog text before mark (count - BASED_HEADER_BYTES) piece torn
+  continues = subst (λ n. ContinuesLog text before mark n piece torn) size (goes text before (count - BASED_HEADER_BYTES) own read)
+
+  -- and so it does by the bytes up to its end
+  pub continues_front : ContinuesLog (take (mark.offset + (count - BASED_HEADER_BYTES)) text) before mark (count - BASED_HEADER_BYTES) piece torn
+  continues_front =
+      let front = take (mark.offset + (count - BASED_HEADER_BYTES)) text in
+      subst (λ n. ContinuesLog front before mark n piece torn) size
+      (goes front before (count - BASED_HEADER_BYTES) (in_front text before mark (mark.offset + (count - BASED_HEADER_BYTES)) (omega arith) own) (read ∙ piece_in_front text mark (count - BASED_HEADER_BYTES)))
 
 -- the base LSN of a piece is that of its mark
 pub base_is : (text : List ℕ) (before : LogContent) (mark : Mark) (count torn : ℕ) (piece : LogContent) → ContinuesLog text before mark count piece torn → base_lsn (history piece) ≡ mark.lsn
@@ -72,15 +93,9 @@ keeps_on (Some xs) None new a b = absurd a
 keeps_on (Some xs) (Some ys) None a b = absurd b
 keeps_on (Some xs) (Some ys) (Some zs) a b = b ∙ a
 
--- a mark of the list is one of the bytes
-pub marked : (text : List ℕ) (whole : LogContent) (marks : List Mark) (k : ℕ) (mark : Mark) → ((d : Mark) → mark ≡ get_or marks k d) → k < length marks → AreMarks text whole marks → (before : LogContent) × IsMark text before mark
-marked text whole marks k mark is lt are =
-    let own = are.each k mark lt in
-    (own.0, subst (IsMark text own.0) (sym (is mark)) own.1)
-
--- the same for the last mark
+-- the last mark of a list of marks of the bytes
 pub marked_last : (text : List ℕ) (marks : List Mark) (mark : Mark) → 0 < length marks → ((d : Mark) → mark ≡ get_or marks (length marks - 1) d)
-    → ((k : ℕ) (d : Mark) → k < length marks → (before : LogContent) × IsMark text before (get_or marks k d)) → (before : LogContent) × IsMark text before mark
+    → ((k : ℕ) (d : Mark) → k < length marks → HasMark text (get_or marks k d)) → HasMark text mark
 marked_last text marks mark some is each =
     let own = each (length marks - 1) mark (omega (arith, some)) in
     (own.0, subst (IsMark text own.0) (sym (is mark)) own.1)

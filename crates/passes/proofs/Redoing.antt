@@ -1,5 +1,5 @@
 -- Redo by a log that is read in pieces.
-use Rattle.std.proofs.Common.{◌≡◌, ℕ, zero, suc, ◌+◌, ◌-◌, ◌<◌, ◌≤◌, ◌⊎◌, List, [], ◌∷◌, All, length, drop, get_or, refl, sym, ap, ◌∙◌, subst, inl, inr, arith, length-append}
+use Rattle.std.proofs.Common.{◌≡◌, ℕ, zero, suc, ◌+◌, ◌-◌, ◌<◌, ◌≤◌, ◌⊎◌, List, All, length, drop, get_or, refl, sym, ap, ◌∙◌, subst, inl, inr, arith, length-append}
 use Rattle.std.proofs.lemmas.Bool.{cases_lt}
 use Rattle.std.proofs.lemmas.List.{get_or-drop, get_or_default, length-drop}
 use Rattle.std.specs.List.Sorted.{IsNonDecreasingBy}
@@ -28,8 +28,8 @@ use Rattle.redo.proofs.Stretches.{skipped_some}
 use Rattle.redo.proofs.Replay.{skips_none}
 use Rattle.redo.proofs.Passing.{exist_gone, missing_gone}
 use Rattle.passes.specs.declared.fault.PassFault.{PassFault}
+use Rattle.passes.specs.Calls.{IsRoom}
 use Rattle.passes.specs.Marks.{IsResource, AreMarks, AreInReach, Reaches}
-use Rattle.passes.specs.Next.{IsBefore}
 use Rattle.passes.specs.Redoing.{RedoCause, AreTalliedUpTo}
 use Rattle.wal.specs.declared.sizes.TheConstants.{BASED_HEADER_BYTES}
 
@@ -42,11 +42,6 @@ mark_within text whole before torn mark reads is =
       omega (arith, is.lsn, size_of_log before, base_of_log whole, ap lsn_before starts),
       omega (arith, is.lsn, size_of_log before, size_of_log whole, ap lsn_before starts, ap length more.1, length-append before.records more.0),
     )
-
--- a log has a mark
-pub some_marks : (text : List ℕ) (whole : LogContent) (marks : List Mark) → AreMarks text whole marks → 0 < length marks
-some_marks text whole [] are = absurd (omega (arith, are.first (record { lsn = suc (base_lsn (history whole)); offset = 0 })))
-some_marks text whole (mark ∷ marks) are = omega arith
 
 -- redo looks at no record up to the LSN that it skips
 pub before_redo : (base redo_lsn last lsn : ℕ) → lsn ≤ last → (lsn ≡ base) ⊎ (lsn < redo_lsn) → 0 < redo_lsn → lsn ≤ skipped base redo_lsn last
@@ -82,17 +77,6 @@ tallied_first whole images tables base lsn scan numbered from upto at within bef
     }
 
 -- ONE MORE PIECE
--- a mark below the last one of a log is before its end
-pub is_before_end : (text : List ℕ) (whole before : LogContent) (torn : ℕ) (marks : List Mark) (mark end : Mark) → Reads text whole torn → IsMark text before mark → AreMarks text whole marks
-    → ((d : Mark) → end ≡ get_or marks (length marks - 1) d) → mark.lsn < end.lsn → IsBefore text whole before mark end.lsn
-is_before_end text whole before torn marks mark end reads is are end_is less = record {
-  torn = torn;
-  reads = reads;
-  is_end = ap (λ (m : Mark). m.lsn) (end_is end) ∙ are.last end;
-  is_mark = is;
-  is_before = less;
-}
-
 pub tallied_more : (whole piece : LogContent) (images : List Page) (tables : TablesContent) (mark next : ℕ) (old new : TalliesSoFar) → IsPieceOf (history whole) (history piece) → base_lsn (history piece) ≡ mark → last_lsn (history piece) ≡ next
     → new.redo_lsn ≡ old.redo_lsn → new.upto ≡ next
     → ((input : InputContent) → IsPieceFor input old.redo_lsn piece → AreUpTo input (base_lsn (history piece)) old.tallies → AreUpTo input (last_lsn (history piece)) new.tallies)
@@ -127,7 +111,7 @@ pass_cause whole piece count redo_lsn e own before cause = absurd cause
 
 -- FETCHING
 -- the piece after the last mark before a record reaches the record, if the room is in reach
-pub reaches_next : (text : List ℕ) (whole : LogContent) (marks : List Mark) (asked room place : ℕ) (mark : Mark) (lsn : ℕ) → room ≡ asked → BASED_HEADER_BYTES ≤ asked → AreMarks text whole marks → AreInReach asked marks
+pub reaches_next : (text : List ℕ) (whole : LogContent) (marks : List Mark) (asked room place : ℕ) (mark : Mark) (lsn : ℕ) → room ≡ asked → IsRoom asked → AreMarks text whole marks → AreInReach asked marks
     → ((d : Mark) → mark ≡ get_or marks place d) → place < length marks → ((d : Mark) → place + 1 < length marks → lsn ≤ (get_or marks (place + 1) d).lsn) → lsn ≤ last_lsn (history whole)
     → Reaches text (mark.offset + room - BASED_HEADER_BYTES) lsn
 reaches_next text whole marks asked room place mark lsn same wide are reach is lt next within =
@@ -146,7 +130,7 @@ reaches_next text whole marks asked room place mark lsn same wide are reach is l
             own.0,
             mark,
             subst (IsMark text own.0) (sym (is mark)) own.1,
-            omega (arith, same, wide),
+            omega (arith, same, wide.takes),
             omega (arith, within, ap (λ (m : Mark). m.lsn) (is mark), ap (λ k. (get_or marks k mark).lsn) at, are.last mark),
           ))
     ]

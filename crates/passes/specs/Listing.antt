@@ -1,12 +1,22 @@
 -- Redo of a log without a checkpoint, before analysis has found its tables (own).
-use Rattle.std.specs.Prelude.{ℕ, ◌+◌, List, Option, Some, None, length}
+use Rattle.std.specs.Prelude.{◌≡◌, ℕ, ◌+◌, List, Option, Some, None, IfOk, IfErr, length}
 use Rattle.page.specs.declared.fault.Fault.{Fault}
 use Rattle.page.specs.declared.page.Page.{Page}
-use Rattle.log_laws.specs.Records.{LogContent, history, base_lsn}
+use Rattle.changes.specs.declared.pages.Pages.{Ghosts as Pages}
+use Rattle.log_laws.specs.Records.{LogContent, History, history, base_lsn, last_lsn, ◌▸▸◌}
+use Rattle.wal.specs.declared.glance.Glance.{Glance}
+use Rattle.wal.specs.Glances.{IsGlanceBehind}
+use Rattle.tables.specs.Pieces.{IsPieceOf}
 use Rattle.tables.specs.Tables.{TablesContent}
+use Rattle.analysis.specs.Passing.{SeenTables, HasAnalysed, ComesBefore}
+use Rattle.pieces.specs.declared.mark.Mark.{Mark}
 use Rattle.redo.specs.Passing.{TalliesSoFar, ListEach}
 use Rattle.redo.specs.Redone.{RedoFault}
-use Rattle.passes.specs.Redoing.{AreTalliedUpTo}
+use Rattle.passes.specs.declared.fresh.ForwardReading.{ForwardReading}
+use Rattle.passes.specs.declared.fresh.ForwardScan.{ForwardScan}
+use Rattle.passes.specs.Calls.{ForLog, ForLogAt}
+use Rattle.passes.specs.Tables.{NotesOn}
+use Rattle.passes.specs.Redoing.{AreTalliedUpTo, ForShown}
 
 -- TALLIED BY ALL. The tallies describe the pages as the records of the whole log up to an LSN leave them, by tables that list each page of
 -- the store from the log's first record on.
@@ -19,3 +29,50 @@ pub record AreTalliedByAll (whole : LogContent) (images : List Page) (lsn : ℕ)
 abbrev pub TalliedOrRefused : LogContent → List Page → (lsn : ℕ) → Option Fault → TalliesSoFar → Type 0
 TalliedOrRefused whole images lsn None scan = AreTalliedByAll whole images lsn scan
 TalliedOrRefused whole images lsn (Some e) scan = RedoFault whole (length images) (base_lsn (history whole) + 1) 1 e
+
+-- with the next record, which has this glance
+abbrev pub TalliesNext : (lsn : ℕ) → Glance → (before after : Option Fault) → (old new : TalliesSoFar) → Type 0
+TalliesNext lsn glance before after old new = (whole piece : LogContent) (images : List Page) → IsPieceOf (history whole) (history piece) → IsGlanceBehind (history piece) lsn glance
+    → TalliedOrRefused whole images lsn before old → TalliedOrRefused whole images (lsn + 1) after new
+
+-- THE SCAN of the one reading has such tallies
+abbrev pub IsTalliedTo : LogContent → List Page → (lsn : ℕ) → ForwardScan → Type 0
+IsTalliedTo whole images lsn scan = TalliedOrRefused whole images lsn scan.fault scan.tallies
+
+-- before the first record, its tables are empty
+abbrev pub HasBegun : SeenTables → Type 0
+HasBegun scan = (whole log : History) → ComesBefore 0 log → HasAnalysed 0 whole log scan
+
+-- it has read a piece, for analysis
+abbrev pub AnalysesPiece : (piece : LogContent) → (old new : SeenTables) → Type 0
+AnalysesPiece piece old new = (whole log : History) → last_lsn log ≡ base_lsn (history piece) → HasAnalysed 0 whole log old → HasAnalysed 0 whole (log ▸▸ piece.records) new
+
+-- and for redo
+abbrev pub TalliesPiece : (piece : LogContent) → (old new : ForwardScan) → Type 0
+TalliesPiece piece old new = (whole : LogContent) (images : List Page) → IsPieceOf (history whole) (history piece)
+    → IsTalliedTo whole images (base_lsn (history piece)) old → IsTalliedTo whole images (last_lsn (history piece)) new
+
+-- with what comes after a mark
+abbrev pub ScansOn : (old new : ForwardScan) → (before after : LogContent) → Type 0
+ScansOn old new before after = NotesOn 0 old.tables new.tables before after
+
+abbrev pub TalliesAfter : (held : Option (List ℕ)) → (mark next : Mark) → (old new : ForwardScan) → Type 0
+TalliesAfter held mark next old new = ForLogAt held mark (λ whole. (images : List Page) → IsTalliedTo whole images mark.lsn old → IsTalliedTo whole images next.lsn new)
+
+-- P is true of each log with this base LSN that it has analysed
+abbrev pub ForAnalysed : (base : ℕ) → SeenTables → (LogContent → Type 0) → Type 0
+ForAnalysed base scan P = (log : LogContent) → base_lsn (history log) ≡ base → HasAnalysed 0 (history log) (history log) scan → P log
+
+-- WHAT PAGES SHOW, in memory or not
+module _ {P : Type 0} (pages : Pages P) where
+  -- the scan has their tallies before the first record of each log with this base LSN
+  abbrev pub BeginsTallies : P → (base : ℕ) → ForwardScan → Type 0
+  BeginsTallies p base scan = ForShown pages p (λ stored shown. (whole : LogContent) → base_lsn (history whole) ≡ base → IsTalliedTo whole shown base scan)
+
+  -- the result of the reading has their tallies at the end of the log
+  abbrev pub AreTalliedIn : (held : Option (List ℕ)) → P → ForwardReading → Type 0
+  AreTalliedIn held p x = ForLog held (λ whole. ForShown pages p (λ stored shown. IfOk x.tallies (AreTalliedByAll whole shown (last_lsn (history whole)))))
+
+  -- if it has none, it has the fault of redo by its tables
+  abbrev pub AreRefused : (held : Option (List ℕ)) → P → ForwardReading → Type 0
+  AreRefused held p x = ForLog held (λ whole. ForShown pages p (λ stored shown. IfErr x.tallies (RedoFault whole (length shown) x.tables.redo_lsn 1)))

@@ -13,15 +13,39 @@ use Rattle.passes.specs.declared.fault.PassFault.TheVariants as fault
 abbrev pub Reaches : (text : List ℕ) → (offset upto : ℕ) → Type 0
 Reaches text offset upto = (before : LogContent) × (mark : Mark) × IsMark text before mark × (mark.offset ≤ offset) × (upto ≤ mark.lsn)
 
+-- this is a mark of the bytes
+abbrev pub HasMark : (text : List ℕ) → Mark → Type 0
+HasMark text mark = (before : LogContent) × IsMark text before mark
+
 -- the marks of a log: the first is where it begins, the last after its last record
 pub record AreMarks (text : List ℕ) (whole : LogContent) (marks : List Mark) : Type 0 where
-  pub each : (k : ℕ) (d : Mark) → k < length marks → (before : LogContent) × IsMark text before (slice_index_or marks k d)
+  pub each : (k : ℕ) (d : Mark) → k < length marks → HasMark text (slice_index_or marks k d)
   pub first : (d : Mark) → (slice_index_or marks 0 d).lsn ≡ base_lsn (history whole)
   pub last : (d : Mark) → (slice_index_or marks (length marks - 1) d).lsn ≡ last_lsn (history whole)
 
--- all frames from each mark to the next fit in a room of this many bytes, with a header
+-- whatever log has these marks has this one
+abbrev pub IsMarkAmong : List Mark → Mark → Type 0
+IsMarkAmong marks mark = (text : List ℕ) (whole : LogContent) → AreMarks text whole marks → HasMark text mark
+
+-- it is where such a log begins
+abbrev pub IsFirstAmong : List Mark → Mark → Type 0
+IsFirstAmong marks mark = (text : List ℕ) (whole : LogContent) → AreMarks text whole marks → mark.lsn ≡ base_lsn (history whole)
+
+-- it is after the last record of such a log
+abbrev pub IsLastAmong : List Mark → Mark → Type 0
+IsLastAmong marks mark = (text : List ℕ) (whole : LogContent) → AreMarks text whole marks → mark.lsn ≡ last_lsn (history whole)
+
+-- the LSN of the mark at a place
+abbrev pub lsn_at : List Mark → (place : ℕ) → (default : Mark) → ℕ
+lsn_at marks place d = (slice_index_or marks place d).lsn
+
+-- all frames from this mark to that one fit in a room of this many bytes, with a header
+abbrev pub IsInReach : (room : ℕ) → (mark next : Mark) → Type 0
+IsInReach room mark next = next.offset ≤ mark.offset + room - BASED_HEADER_BYTES
+
+-- and so they do from each mark of a list to the next
 abbrev pub AreInReach : (room : ℕ) → List Mark → Type 0
-AreInReach room marks = (k : ℕ) (d : Mark) → k + 1 < length marks → (slice_index_or marks (k + 1) d).offset ≤ (slice_index_or marks k d).offset + room - BASED_HEADER_BYTES
+AreInReach room marks = (k : ℕ) (d : Mark) → k + 1 < length marks → IsInReach room (slice_index_or marks k d) (slice_index_or marks (k + 1) d)
 
 -- a mark is low enough to read the log after it
 pub record IsLow (mark : Mark) : Type 0 where

@@ -1,23 +1,49 @@
 -- What comes after a mark of a log (own).
-use Rattle.std.specs.Prelude.{◌≡◌, ◌⊎◌, ℕ, ◌<◌, List, Option, Some}
+use Rattle.std.specs.Prelude.{◌≡◌, ◌⊎◌, ℕ, ◌+◌, ◌<◌, List, Option, Some}
 use Rattle.page.specs.declared.fault.Fault.TheVariants.{BadLength}
 use Rattle.log_laws.specs.Records.{LogContent, history, last_lsn, ◌⧺◌}
 use Rattle.wal.specs.Reads.{Reads}
+use Rattle.wal.specs.declared.sizes.TheConstants.{BASED_HEADER_BYTES, LONGEST_FRAME}
 use Rattle.tables.specs.Pieces.{IsPieceOf}
 use Rattle.pieces.specs.declared.mark.Mark.{Mark}
 use Rattle.pieces.specs.Pieces.{IsMark}
 use Rattle.passes.specs.declared.fault.PassFault.{PassFault}
 use Rattle.passes.specs.declared.fault.PassFault.TheVariants as fault
-use Rattle.passes.specs.Marks.{LogCause}
+use Rattle.passes.specs.Marks.{HasMark, IsResource, LogCause}
+use Rattle.passes.specs.Calls.{ForMark, ForLogAt}
 
 -- The records of the piece come next in the bytes, and the next mark is after them.
 pub record ComesNext (text : List ℕ) (before : LogContent) (next : Mark) (piece : LogContent) : Type 0 where
   pub is_next : IsMark text (before ⧺ piece.records) next
   pub is_piece : (whole : LogContent) (torn : ℕ) → Reads text whole torn → IsPieceOf (history whole) (history piece)
 
--- why no piece is read into a room of any size: a fault of the bytes that are held, or the next frame does not fit in the room
-abbrev pub PieceCause : Option (List ℕ) → Mark → PassFault → Type 0
-PieceCause held mark e = (text : List ℕ) (before : LogContent) → held ≡ Some text → IsMark text before mark → LogCause text e ⊎ (e ≡ fault.Fault (BadLength mark.offset))
+-- OF THE BYTES THAT A DEVICE HOLDS
+-- they come after a mark
+abbrev pub ComesAfter : (held : Option (List ℕ)) → (mark next : Mark) → (piece : LogContent) → Type 0
+ComesAfter held mark next piece = ForMark held mark (λ text before. ComesNext text before next piece)
+
+-- the piece is one of the log
+abbrev pub IsPieceAfter : (held : Option (List ℕ)) → Mark → (piece : LogContent) → Type 0
+IsPieceAfter held mark piece = ForLogAt held mark (λ whole. IsPieceOf (history whole) (history piece))
+
+-- this is a mark of them too
+abbrev pub IsNextMark : (held : Option (List ℕ)) → (mark next : Mark) → Type 0
+IsNextMark held mark next = ForMark held mark (λ text before. HasMark text next)
+
+-- this is a mark of them too, and Q is true of the logs before both marks
+abbrev pub GoesOn : (held : Option (List ℕ)) → Mark → ((before after : LogContent) → Type 0) → (next : Mark) → Type 0
+GoesOn held mark Q next = ForMark held mark (λ text before. (after : LogContent) × IsMark text after next × Q before after)
+
+-- if no record comes after the mark, the log ends there with these torn bytes
+abbrev pub EndsAt : (held : Option (List ℕ)) → (mark next : Mark) → (torn : ℕ) → Type 0
+EndsAt held mark next torn = ForMark held mark (λ text before. next.lsn ≡ mark.lsn → Reads text before torn)
+
+-- why no piece of them is read into a room of this size: a fault of the bytes, or the next frame does not fit in the room
+abbrev pub PieceFails : (text : List ℕ) → Mark → (room : ℕ) → PassFault → Type 0
+PieceFails text mark room e = LogCause text e ⊎ ((room < BASED_HEADER_BYTES + LONGEST_FRAME) × (e ≡ fault.Fault (BadLength mark.offset)))
+
+abbrev pub PieceCause : (held : Option (List ℕ)) → Mark → (room : ℕ) → PassFault → Type 0
+PieceCause held mark room e = ForMark held mark (λ text before. PieceFails text mark room e)
 
 -- A mark before the last record of the bytes. This is the LSN of that record.
 pub record IsBefore (text : List ℕ) (whole before : LogContent) (mark : Mark) (end : ℕ) : Type 0 where
@@ -26,3 +52,11 @@ pub record IsBefore (text : List ℕ) (whole before : LogContent) (mark : Mark) 
   pub is_end : end ≡ last_lsn (history whole)
   pub is_mark : IsMark text before mark
   pub is_before : mark.lsn < end
+
+-- P is true of the log that a device holds, if the mark is such a one
+abbrev pub ForBefore : (held : Option (List ℕ)) → Mark → (end : ℕ) → (LogContent → Type 0) → Type 0
+ForBefore held mark end P = (text : List ℕ) (whole before : LogContent) → held ≡ Some text → IsBefore text whole before mark end → P whole
+
+-- a device or memory, and nothing else, stops a call that reads on from there
+abbrev pub IsResourceBefore : (held : Option (List ℕ)) → Mark → (end : ℕ) → PassFault → Type 0
+IsResourceBefore held mark end e = ForBefore held mark end (λ whole. IsResource e)

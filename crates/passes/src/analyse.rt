@@ -1,22 +1,12 @@
 //! Analysis of a log that a device holds: the tables of a crash, found piece after piece.
 
-ghost use Rattle.std.specs.Prelude.{◌≡◌, ◌+◌, ◌-◌, ◌≤◌, ◌<◌, ◌^◌, ℕ, List, length, IfOk, IfErr, OnOk, Some, None};
-ghost use Rattle.std.specs.Io.KnownBytes.{Keeps};
-ghost use Rattle.page.specs.Store.{StoreContent};
-ghost use Rattle.log_laws.specs.Records.{LogContent, History, history, last_lsn, record_at};
-ghost use Rattle.log_laws.specs.Meaning.{BasePages};
-ghost use Rattle.log_laws.specs.Store.{Lawful};
-ghost use Rattle.log_laws.specs.Undo.{entry_for};
-ghost use Rattle.wal.specs.Reads.{Reads};
-ghost use Rattle.wal.specs.declared.sizes.TheConstants.{BASED_HEADER_BYTES, LARGEST_BASE, LONGEST_FRAME};
-ghost use Rattle.tables.specs.Lawful.{AreTrue};
-ghost use Rattle.analysis.specs.Passing.{HasSeen, HasAnalysed};
-ghost use Rattle.analysis.specs.Tables.{AreTablesOf, IsBase, entry_at};
-ghost use Rattle.pieces.specs.declared.mark.Mark.{Mark};
-ghost use Rattle.pieces.specs.Pieces.{IsMark};
-ghost use Rattle.passes.specs.Marks.{AreMarks, IsLow, IsResource, failures_of_pass};
-ghost use Rattle.passes.specs.Next.{IsBefore};
-ghost use Rattle.passes.specs.Tables.{TablesCause};
+ghost use Rattle.std.specs.Prelude.{◌≡◌, ◌≤◌, ◌<◌, length, IfOk, IfErr, OnOk, None};
+ghost use Rattle.wal.specs.declared.sizes.TheConstants.{LARGEST_BASE};
+ghost use Rattle.analysis.specs.Tables.{entry_at};
+ghost use Rattle.passes.specs.Marks.{IsLow};
+ghost use Rattle.passes.specs.Next.{GoesOn, IsResourceBefore};
+ghost use Rattle.passes.specs.Tables.{SeesOn, NotesOn, HasNone0, AreBaseTables, AreTablesIn, AreTrueIn, TablesCauseIn, BaseCause, AreWithout0};
+ghost use Rattle.passes.specs.Calls.{IsRoom, HasRead, ToEnd, IsResourceToEnd};
 
 use crate::{Marks, PassFault, piece_before};
 use analysis::{CheckpointScan, TableScan};
@@ -37,24 +27,15 @@ fn look_in_piece<S: Reread>(
     room: &mut [u8],
     scan: &mut CheckpointScan,
 ) -> Result<Mark, PassFault>
-    requires room { BASED_HEADER_BYTES ≤ length room.old }
-    requires reach { mark.offset + length room.old < 2 ^ 64 }
+    requires room { IsRoom (length room.old) }
+    requires mark { IsLow mark }
     requires before { mark.lsn < end }
     requires low { end ≤ LARGEST_BASE }
     ensures rises { IfOk result (λ next. mark.lsn < next.lsn) }
-    ensures within { IfOk result (λ next. next.lsn ≤ end) }
-    ensures reach { IfOk result (λ next. next.offset ≤ LARGEST_BASE) }
-    ensures seen { IfOk result (λ next. (text : List ℕ) (before : LogContent)
-        → S.text source.old ≡ Some text → IsMark text before mark
-        → (after : LogContent) × IsMark text after next × ((m : ℕ)
-        → HasSeen m (history before) scan.old → HasSeen m (history after) scan.new)) }
-    ensures fault { IfErr result (λ e. (text : List ℕ) (whole before : LogContent)
-        → S.text source.old ≡ Some text → IsBefore text whole before mark end
-        → BASED_HEADER_BYTES + LONGEST_FRAME ≤ length room.old → IsResource e) }
-    ensures same { Keeps (S.text source.old) (S.text source.new) }
-    ensures no_failure { OnOk result (S.failures source.new ≡ S.failures source.old) }
-    ensures cause { IfErr result (λ e. S.failures source.new
-        ≡ S.failures source.old + failures_of_pass e) }
+    ensures low { IfOk result IsLow }
+    ensures seen { IfOk result (GoesOn (S.text source.old) mark (SeesOn scan.old scan.new)) }
+    ensures fault { IfErr result (IsResourceBefore (S.text source.old) mark end) }
+    ensures source { HasRead S.text S.failures source.old source.new result }
 {
     let (piece, next) = piece_before(alloc, source, mark, end, room)?;
     scan.pass(&piece)?;
@@ -71,22 +52,12 @@ fn look_from<S: Reread>(
     room: &mut [u8],
     scan: &mut CheckpointScan,
 ) -> Result<(), PassFault>
-    requires room { BASED_HEADER_BYTES ≤ length room.old }
-    requires reach { length room.old < 2 ^ 63 }
+    requires room { IsRoom (length room.old) }
     requires from { IsLow from }
     requires low { end ≤ LARGEST_BASE }
-    ensures seen { OnOk result ((text : List ℕ) (whole before : LogContent) (torn m : ℕ)
-        → S.text source.old ≡ Some text → Reads text whole torn → end ≡ last_lsn (history whole)
-        → IsMark text before from → HasSeen m (history before) scan.old
-        → HasSeen m (history whole) scan.new) }
-    ensures fault { IfErr result (λ e. (text : List ℕ) (whole before : LogContent) (torn : ℕ)
-        → S.text source.old ≡ Some text → Reads text whole torn → end ≡ last_lsn (history whole)
-        → IsMark text before from → BASED_HEADER_BYTES + LONGEST_FRAME ≤ length room.old
-        → IsResource e) }
-    ensures same { Keeps (S.text source.old) (S.text source.new) }
-    ensures no_failure { OnOk result (S.failures source.new ≡ S.failures source.old) }
-    ensures cause { IfErr result (λ e. S.failures source.new
-        ≡ S.failures source.old + failures_of_pass e) }
+    ensures seen { OnOk result (ToEnd (S.text source.old) from end (SeesOn scan.old scan.new)) }
+    ensures fault { IfErr result (IsResourceToEnd (S.text source.old) from end) }
+    ensures source { HasRead S.text S.failures source.old source.new result }
 {
     let mut mark = from;
     while mark.lsn < end && !scan.is_found() {
@@ -106,27 +77,17 @@ fn analyse_piece<S: Reread>(
     master: u64,
     scan: &mut TableScan,
 ) -> Result<Mark, PassFault>
-    requires room { BASED_HEADER_BYTES ≤ length room.old }
-    requires reach { mark.offset + length room.old < 2 ^ 64 }
+    requires room { IsRoom (length room.old) }
+    requires mark { IsLow mark }
     requires before { mark.lsn < end }
     requires low { end ≤ LARGEST_BASE }
     ensures rises { IfOk result (λ next. mark.lsn < next.lsn) }
-    ensures within { IfOk result (λ next. next.lsn ≤ end) }
-    ensures reach { IfOk result (λ next. next.offset ≤ LARGEST_BASE) }
-    ensures analysed { IfOk result (λ next. (text : List ℕ) (before : LogContent)
-        → S.text source.old ≡ Some text → IsMark text before mark
-        → (after : LogContent) × IsMark text after next × ((whole : History)
-        → HasAnalysed master whole (history before) scan.old
-        → HasAnalysed master whole (history after) scan.new)) }
-    ensures no_transaction_0 { OnOk result (entry_at 0 scan.old.entries ≡ None
-        → entry_at 0 scan.new.entries ≡ None) }
-    ensures fault { IfErr result (λ e. (text : List ℕ) (whole before : LogContent)
-        → S.text source.old ≡ Some text → IsBefore text whole before mark end
-        → BASED_HEADER_BYTES + LONGEST_FRAME ≤ length room.old → IsResource e) }
-    ensures same { Keeps (S.text source.old) (S.text source.new) }
-    ensures no_failure { OnOk result (S.failures source.new ≡ S.failures source.old) }
-    ensures cause { IfErr result (λ e. S.failures source.new
-        ≡ S.failures source.old + failures_of_pass e) }
+    ensures low { IfOk result IsLow }
+    ensures seen { IfOk result (GoesOn (S.text source.old) mark
+        (NotesOn master scan.old scan.new)) }
+    ensures no_transaction_0 { OnOk result (HasNone0 scan.old → HasNone0 scan.new) }
+    ensures fault { IfErr result (IsResourceBefore (S.text source.old) mark end) }
+    ensures source { HasRead S.text S.failures source.old source.new result }
 {
     let (piece, next) = piece_before(alloc, source, mark, end, room)?;
     scan.pass(&piece, master)?;
@@ -144,24 +105,14 @@ fn analyse_from<S: Reread>(
     master: u64,
     scan: &mut TableScan,
 ) -> Result<(), PassFault>
-    requires room { BASED_HEADER_BYTES ≤ length room.old }
-    requires reach { length room.old < 2 ^ 63 }
+    requires room { IsRoom (length room.old) }
     requires from { IsLow from }
     requires low { end ≤ LARGEST_BASE }
-    ensures analysed { OnOk result ((text : List ℕ) (whole before : LogContent) (torn : ℕ)
-        → S.text source.old ≡ Some text → Reads text whole torn → end ≡ last_lsn (history whole)
-        → IsMark text before from → HasAnalysed master (history whole) (history before) scan.old
-        → HasAnalysed master (history whole) (history whole) scan.new) }
-    ensures no_transaction_0 { OnOk result (entry_at 0 scan.old.entries ≡ None
-        → entry_at 0 scan.new.entries ≡ None) }
-    ensures fault { IfErr result (λ e. (text : List ℕ) (whole before : LogContent) (torn : ℕ)
-        → S.text source.old ≡ Some text → Reads text whole torn → end ≡ last_lsn (history whole)
-        → IsMark text before from → BASED_HEADER_BYTES + LONGEST_FRAME ≤ length room.old
-        → IsResource e) }
-    ensures same { Keeps (S.text source.old) (S.text source.new) }
-    ensures no_failure { OnOk result (S.failures source.new ≡ S.failures source.old) }
-    ensures cause { IfErr result (λ e. S.failures source.new
-        ≡ S.failures source.old + failures_of_pass e) }
+    ensures seen { OnOk result (ToEnd (S.text source.old) from end
+        (NotesOn master scan.old scan.new)) }
+    ensures no_transaction_0 { OnOk result (HasNone0 scan.old → HasNone0 scan.new) }
+    ensures fault { IfErr result (IsResourceToEnd (S.text source.old) from end) }
+    ensures source { HasRead S.text S.failures source.old source.new result }
 {
     let mut mark = from;
     while mark.lsn < end {
@@ -183,23 +134,14 @@ fn checkpoint_tables<S: Reread>(
     room: &mut [u8],
     master: u64,
 ) -> Result<(BTreeMap<u32, Entry>, BTreeMap<u32, u64>), PassFault>
-    requires room { BASED_HEADER_BYTES ≤ length room.old }
-    requires reach { length room.old < 2 ^ 63 }
+    requires room { IsRoom (length room.old) }
     requires from { IsLow from }
     requires low { end ≤ LARGEST_BASE }
-    ensures base { IfOk result (λ x. (text : List ℕ) (whole before : LogContent) (torn : ℕ)
-        → S.text source.old ≡ Some text → Reads text whole torn → end ≡ last_lsn (history whole)
-        → IsMark text before from → record_at (history before) master ≡ None
-        → IsBase master (history whole) x.0.entries x.1.entries) }
+    ensures base { IfOk result (λ x. AreBaseTables (S.text source.old) from end master
+        x.0.entries x.1.entries) }
     ensures no_transaction_0 { IfOk result (λ x. entry_at 0 x.0.entries ≡ None) }
-    ensures fault { IfErr result (λ e. (text : List ℕ) (whole before : LogContent) (torn : ℕ)
-        → S.text source.old ≡ Some text → Reads text whole torn → end ≡ last_lsn (history whole)
-        → IsMark text before from → record_at (history before) master ≡ None
-        → BASED_HEADER_BYTES + LONGEST_FRAME ≤ length room.old → TablesCause master whole e) }
-    ensures same { Keeps (S.text source.old) (S.text source.new) }
-    ensures no_failure { OnOk result (S.failures source.new ≡ S.failures source.old) }
-    ensures cause { IfErr result (λ e. S.failures source.new
-        ≡ S.failures source.old + failures_of_pass e) }
+    ensures fault { IfErr result (BaseCause (S.text source.old) from end master) }
+    ensures source { HasRead S.text S.failures source.old source.new result }
 {
     let mut scan = CheckpointScan::new(alloc, master);
     look_from(alloc, source, from, end, room, &mut scan)?;
@@ -212,9 +154,8 @@ fn checkpoint_tables<S: Reread>(
 ///
 /// Errors: `Failed` if the source failed; `NoResource` if memory was refused, or if an offset of
 /// the log is above 2^63 - 1; `BadMaster` if `master` is not 0, and there is no checkpoint begin
-/// record at it or no later checkpoint end record names it; `BadLength` with the offset of a frame
-/// that does not fit in the room. Any other fault is returned only if the source no longer holds
-/// what it held when the marks were made.
+/// record at it or no later checkpoint end record names it. Any other fault is returned only if the
+/// source no longer holds what it held when the marks were made.
 pub fn tables_in_pieces<S: Reread>(
     alloc: Global,
     source: &mut S,
@@ -222,23 +163,12 @@ pub fn tables_in_pieces<S: Reread>(
     room: &mut [u8],
     master: u64,
 ) -> Result<Tables, PassFault>
-    requires room { BASED_HEADER_BYTES ≤ length room.old }
-    requires reach { length room.old < 2 ^ 63 }
-    ensures tables { IfOk result (λ tables. (text : List ℕ) (whole : LogContent) (torn : ℕ)
-        → S.text source.old ≡ Some text → Reads text whole torn → AreMarks text whole marks.now
-        → AreTablesOf whole master tables) }
-    ensures lawful { IfOk result (λ tables. (text : List ℕ) (whole : LogContent) (torn : ℕ)
-        (over : BasePages) (store : StoreContent)
-        → S.text source.old ≡ Some text → Reads text whole torn → AreMarks text whole marks.now
-        → Lawful over whole store → store.master ≡ master → AreTrue whole store tables) }
-    ensures no_transaction_0 { IfOk result (λ tables. entry_for 0 tables.transactions ≡ None) }
-    ensures fault { IfErr result (λ e. (text : List ℕ) (whole : LogContent) (torn : ℕ)
-        → S.text source.old ≡ Some text → Reads text whole torn → AreMarks text whole marks.now
-        → BASED_HEADER_BYTES + LONGEST_FRAME ≤ length room.old → TablesCause master whole e) }
-    ensures same { Keeps (S.text source.old) (S.text source.new) }
-    ensures no_failure { OnOk result (S.failures source.new ≡ S.failures source.old) }
-    ensures cause { IfErr result (λ e. S.failures source.new
-        ≡ S.failures source.old + failures_of_pass e) }
+    requires room { IsRoom (length room.old) }
+    ensures tables { IfOk result (AreTablesIn (S.text source.old) marks.now master) }
+    ensures lawful { IfOk result (AreTrueIn (S.text source.old) marks.now master) }
+    ensures no_transaction_0 { IfOk result AreWithout0 }
+    ensures fault { IfErr result (TablesCauseIn (S.text source.old) marks.now master) }
+    ensures source { HasRead S.text S.failures source.old source.new result }
 {
     let base = marks.first().lsn;
     let end = marks.end().lsn;

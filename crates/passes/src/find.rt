@@ -1,12 +1,10 @@
 //! The first reading of a log: the marks before and after its pieces, and its fault if it has one.
 
-ghost use Rattle.std.specs.Prelude.{◌≡◌, ◌+◌, ◌-◌, ◌≤◌, ◌<◌, ◌^◌, ℕ, List, [], length, IfOk, IfErr, OnOk, Some};
-ghost use Rattle.std.specs.Io.KnownBytes.{Keeps};
-ghost use Rattle.log_laws.specs.Records.{LogContent};
-ghost use Rattle.wal.specs.Reads.{Reads};
-ghost use Rattle.wal.specs.declared.sizes.TheConstants.{BASED_HEADER_BYTES, LARGEST_BASE, LONGEST_FRAME};
-ghost use Rattle.pieces.specs.Pieces.{IsMark};
-ghost use Rattle.passes.specs.Marks.{failures_of_pass, LogCause, AreFound};
+ghost use Rattle.std.specs.Prelude.{length, IfOk, IfErr};
+ghost use Rattle.pieces.specs.Pieces.{IsFirstMark};
+ghost use Rattle.passes.specs.Marks.{IsInReach, IsLow};
+ghost use Rattle.passes.specs.Calls.{IsRoom, HasRead, ForText, FindsMarks, TextCause, MarkCause};
+ghost use Rattle.passes.specs.Next.{IsNextMark, EndsAt};
 
 use crate::{Marks, PassFault, next_piece};
 use device::{Reread, read_full_at};
@@ -24,15 +22,10 @@ pub fn mark_at_start<S: Reread>(
     source: &mut S,
     room: &mut [u8],
 ) -> Result<Mark, PassFault>
-    requires room { BASED_HEADER_BYTES ≤ length room.old }
-    ensures mark { IfOk result (λ mark. (text : List ℕ) → S.text source.old ≡ Some text
-        → (before : LogContent) × (before.records ≡ []) × IsMark text before mark) }
-    ensures fault { IfErr result (λ e. (text : List ℕ) → S.text source.old ≡ Some text
-        → LogCause text e) }
-    ensures same { Keeps (S.text source.old) (S.text source.new) }
-    ensures no_failure { OnOk result (S.failures source.new ≡ S.failures source.old) }
-    ensures cause { IfErr result (λ e. S.failures source.new
-        ≡ S.failures source.old + failures_of_pass e) }
+    requires room { IsRoom (length room.old) }
+    ensures mark { IfOk result (λ mark. ForText (S.text source.old) (λ text. IsFirstMark text mark)) }
+    ensures fault { IfErr result (TextCause (S.text source.old)) }
+    ensures source { HasRead S.text S.failures source.old source.new result }
 {
     let count = read_full_at(source, 0, &mut room[..BASED_HEADER_BYTES])?;
     let mark = first_mark(alloc, &room[..count])?;
@@ -47,24 +40,13 @@ fn mark_after<S: Reread>(
     mark: Mark,
     room: &mut [u8],
 ) -> Result<(Mark, usize), PassFault>
-    requires room { BASED_HEADER_BYTES ≤ length room.old }
-    requires reach { mark.offset + length room.old < 2 ^ 64 }
-    requires low { mark.lsn ≤ LARGEST_BASE }
-    ensures within { IfOk result (λ x. x.0.offset ≤ mark.offset
-        + (length room.old - BASED_HEADER_BYTES)) }
-    ensures next { IfOk result (λ x. (text : List ℕ) (before : LogContent)
-        → S.text source.old ≡ Some text → IsMark text before mark
-        → (after : LogContent) × IsMark text after x.0) }
-    ensures ends { IfOk result (λ x. (text : List ℕ) (before : LogContent)
-        → S.text source.old ≡ Some text → IsMark text before mark → x.0.lsn ≡ mark.lsn
-        → Reads text before x.1) }
-    ensures fault { IfErr result (λ e. (text : List ℕ) (before : LogContent)
-        → S.text source.old ≡ Some text → IsMark text before mark
-        → BASED_HEADER_BYTES + LONGEST_FRAME ≤ length room.old → LogCause text e) }
-    ensures same { Keeps (S.text source.old) (S.text source.new) }
-    ensures no_failure { OnOk result (S.failures source.new ≡ S.failures source.old) }
-    ensures cause { IfErr result (λ e. S.failures source.new
-        ≡ S.failures source.old + failures_of_pass e) }
+    requires room { IsRoom (length room.old) }
+    requires low { IsLow mark }
+    ensures within { IfOk result (λ x. IsInReach (length room.old) mark x.0) }
+    ensures next { IfOk result (λ x. IsNextMark (S.text source.old) mark x.0) }
+    ensures ends { IfOk result (λ x. EndsAt (S.text source.old) mark x.0 x.1) }
+    ensures fault { IfErr result (MarkCause (S.text source.old) mark) }
+    ensures source { HasRead S.text S.failures source.old source.new result }
 {
     let (_, next, torn) = next_piece(alloc, source, mark, room)?;
     Ok((next, torn))
@@ -74,24 +56,17 @@ fn mark_after<S: Reread>(
 /// marks, and how many bytes are torn at its end.
 ///
 /// Errors: `Failed` if the source failed; the first error of [`read_log`](wal::read_log) for the
-/// log; `NoResource` if memory was refused, or if a mark's LSN or its offset is above 2^63 - 1;
-/// `BadLength` with the offset of a frame that does not fit in the room. All frames fit in a room
-/// of `BASED_HEADER_BYTES + LONGEST_FRAME` bytes.
+/// log; `NoResource` if memory was refused, or if a mark's LSN or its offset is above 2^63 - 1. The
+/// room has at least `BASED_HEADER_BYTES + LONGEST_FRAME` bytes, so that each frame fits in it.
 pub fn find_marks<S: Reread>(
     alloc: Global,
     source: &mut S,
     room: &mut [u8],
 ) -> Result<(Marks, usize), PassFault>
-    requires room { BASED_HEADER_BYTES ≤ length room.old }
-    requires reach { length room.old < 2 ^ 63 }
-    ensures found { IfOk result (λ x. (text : List ℕ) → S.text source.old ≡ Some text
-        → AreFound text (length room.old) x.0 x.1) }
-    ensures fault { IfErr result (λ e. (text : List ℕ) → S.text source.old ≡ Some text
-        → BASED_HEADER_BYTES + LONGEST_FRAME ≤ length room.old → LogCause text e) }
-    ensures same { Keeps (S.text source.old) (S.text source.new) }
-    ensures no_failure { OnOk result (S.failures source.new ≡ S.failures source.old) }
-    ensures cause { IfErr result (λ e. S.failures source.new
-        ≡ S.failures source.old + failures_of_pass e) }
+    requires room { IsRoom (length room.old) }
+    ensures found { IfOk result (λ x. FindsMarks (S.text source.old) (length room.old) x.0 x.1) }
+    ensures fault { IfErr result (TextCause (S.text source.old)) }
+    ensures source { HasRead S.text S.failures source.old source.new result }
 {
     let first = mark_at_start(alloc, source, room)?;
     let mut marks = Marks::begin(alloc, first)?;

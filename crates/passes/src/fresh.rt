@@ -1,27 +1,17 @@
 //! One forward reading of a log without a checkpoint: its marks, the tables of analysis and the
 //! tallies of redo.
 
-ghost use Rattle.std.specs.Prelude.{◌≡◌, ◌+◌, ◌-◌, ◌≤◌, ◌<◌, ◌^◌, ℕ, List, length, IfOk, IfErr, OnOk, Option, Some, None, IsOkUnless};
-ghost use Rattle.std.specs.Io.KnownBytes.{Keeps};
+ghost use Rattle.std.specs.Prelude.{◌≡◌, ◌+◌, ◌≤◌, ◌<◌, ◌^◌, length, IfOk, IfErr, OnOk, Some, None, IsOkUnless};
 ghost use Rattle.page.specs.declared.fault.Fault.TheVariants.{NoResource};
-ghost use Rattle.page.specs.declared.page.Page.{Page};
-ghost use Rattle.page.specs.Store.{StoreContent, AreNumbered};
-ghost use Rattle.wal.specs.Glances.{IsGlanceBehind};
-ghost use Rattle.log_laws.specs.Records.{LogContent, History, history, last_lsn, base_lsn, ◌▸▸◌};
-ghost use Rattle.log_laws.specs.Meaning.{BasePages};
-ghost use Rattle.wal.specs.Reads.{Reads};
-ghost use Rattle.log_laws.specs.Store.{Lawful};
-ghost use Rattle.log_laws.specs.Undo.{entry_for};
-ghost use Rattle.wal.specs.declared.sizes.TheConstants.{BASED_HEADER_BYTES, LARGEST_BASE, LONGEST_FRAME};
-ghost use Rattle.tables.specs.Lawful.{AreTrue};
-ghost use Rattle.tables.specs.Pieces.{IsPieceOf};
-ghost use Rattle.analysis.specs.Passing.{HasAnalysed, ComesBefore};
-ghost use Rattle.analysis.specs.Tables.{AreTablesOf, entry_at};
-ghost use Rattle.redo.specs.Redone.{RedoFault};
+ghost use Rattle.log_laws.specs.Records.{history, last_lsn, base_lsn};
+ghost use Rattle.wal.specs.declared.sizes.TheConstants.{LARGEST_BASE};
+ghost use Rattle.analysis.specs.Tables.{AreTablesOf};
 ghost use Rattle.redo.specs.Routes.{IsSeen};
-ghost use Rattle.pieces.specs.Pieces.{IsMark};
-ghost use Rattle.passes.specs.Listing.{AreTalliedByAll, TalliedOrRefused};
-ghost use Rattle.passes.specs.Marks.{failures_of_pass, LogCause, AreFound};
+ghost use Rattle.passes.specs.Listing.{TalliesNext, HasBegun, AnalysesPiece, TalliesPiece, ScansOn, TalliesAfter, ForAnalysed, BeginsTallies, AreTalliedIn, AreRefused};
+ghost use Rattle.passes.specs.Marks.{IsInReach, IsLow};
+ghost use Rattle.passes.specs.Calls.{IsRoom, HasRead, ForLog, FindsMarks, TextCause, MarkCause};
+ghost use Rattle.passes.specs.Next.{GoesOn, EndsAt};
+ghost use Rattle.passes.specs.Tables.{HasNone0, AreTrueIfLawful, AreWithout0};
 
 use crate::find::mark_at_start;
 use crate::{Marks, PassFault, next_piece};
@@ -50,15 +40,11 @@ struct ForwardScan {
 /// The scan before the first record of a log with this base LSN. The only error is `NoResource`.
 fn begin_scan<P: Pages>(alloc: Global, pages: &P, base: u64) -> Result<ForwardScan, Fault>
     requires { base ≤ LARGEST_BASE }
-    ensures analysed { IfOk result (λ scan. (whole log : History) → ComesBefore 0 log
-        → HasAnalysed 0 whole log scan.tables) }
-    ensures tallied { IfOk result (λ scan. (stored shown : List Page)
-        → P.shows pages.now stored shown → AreNumbered shown
-        → (whole : LogContent) → base_lsn (history whole) ≡ base
-        → TalliedOrRefused whole shown base scan.fault scan.tallies) }
+    ensures analysed { IfOk result (λ scan. HasBegun scan.tables) }
+    ensures tallied { IfOk result (BeginsTallies P.Pages pages.now base) }
     ensures upto { IfOk result (λ scan. scan.tallies.upto ≡ base) }
     ensures count { IfOk result (λ scan. length scan.tallies.tallies ≡ P.count pages.now) }
-    ensures no_transaction_0 { IfOk result (λ scan. entry_at 0 scan.tables.entries ≡ None) }
+    ensures no_transaction_0 { IfOk result (λ scan. HasNone0 scan.tables) }
     ensures err { IsOkUnless result NoResource }
 {
     // Analysis has not found the tables of the crash yet, so redo treats each page as dirty.
@@ -84,10 +70,7 @@ fn tally_next(
     requires seen { IsSeen glance }
     requires upto { tallies.old.upto ≤ lsn }
     requires room { lsn + 1 < 2 ^ 64 }
-    ensures tallied { (whole piece : LogContent) (images : List Page)
-        → IsPieceOf (history whole) (history piece) → IsGlanceBehind (history piece) lsn glance
-        → TalliedOrRefused whole images lsn fault tallies.old
-        → TalliedOrRefused whole images (lsn + 1) result tallies.new }
+    ensures tallied { TalliesNext lsn glance fault result tallies.old tallies.new }
     ensures upto { tallies.new.upto ≤ lsn + 1 }
     ensures count { length tallies.new.tallies ≡ length tallies.old.tallies }
 {
@@ -105,20 +88,12 @@ fn tally_next(
 /// The only error is `NoResource`, if memory was refused.
 fn scan_piece(piece: &Log, scan: &mut ForwardScan) -> Result<(), Fault>
     requires { scan.old.tallies.upto ≤ base_lsn (history piece.now) }
-    ensures analysed { OnOk result ((whole log : History)
-        → last_lsn log ≡ base_lsn (history piece.now) → HasAnalysed 0 whole log scan.old.tables
-        → HasAnalysed 0 whole (log ▸▸ piece.now.records) scan.new.tables) }
-    ensures tallied { OnOk result ((whole : LogContent) (images : List Page)
-        → IsPieceOf (history whole) (history piece.now)
-        → TalliedOrRefused whole images (base_lsn (history piece.now)) scan.old.fault
-        scan.old.tallies
-        → TalliedOrRefused whole images (last_lsn (history piece.now)) scan.new.fault
-        scan.new.tallies) }
+    ensures analysed { OnOk result (AnalysesPiece piece.now scan.old.tables scan.new.tables) }
+    ensures tallied { OnOk result (TalliesPiece piece.now scan.old scan.new) }
     ensures upto { OnOk result (scan.new.tallies.upto ≤ last_lsn (history piece.now)) }
     ensures count { OnOk result (length scan.new.tallies.tallies
         ≡ length scan.old.tallies.tallies) }
-    ensures no_transaction_0 { OnOk result (entry_at 0 scan.old.tables.entries ≡ None
-        → entry_at 0 scan.new.tables.entries ≡ None) }
+    ensures no_transaction_0 { OnOk result (HasNone0 scan.old.tables → HasNone0 scan.new.tables) }
     ensures err { IsOkUnless result NoResource }
 {
     for lsn in piece.base()..piece.last() {
@@ -141,37 +116,21 @@ fn take_piece<S: Reread>(
     room: &mut [u8],
     scan: &mut ForwardScan,
 ) -> Result<(Mark, usize), PassFault>
-    requires room { BASED_HEADER_BYTES ≤ length room.old }
-    requires reach { mark.offset + length room.old < 2 ^ 64 }
-    requires low { mark.lsn ≤ LARGEST_BASE }
+    requires room { IsRoom (length room.old) }
+    requires low { IsLow mark }
     requires upto { scan.old.tallies.upto ≤ mark.lsn }
-    ensures within { IfOk result (λ x. x.0.offset ≤ mark.offset
-        + (length room.old - BASED_HEADER_BYTES)) }
+    ensures within { IfOk result (λ x. IsInReach (length room.old) mark x.0) }
     ensures upto { IfOk result (λ x. scan.new.tallies.upto ≤ x.0.lsn) }
     ensures count { OnOk result (length scan.new.tallies.tallies
         ≡ length scan.old.tallies.tallies) }
-    ensures analysed { IfOk result (λ x. (text : List ℕ) (before : LogContent)
-        → S.text source.old ≡ Some text → IsMark text before mark
-        → (after : LogContent) × IsMark text after x.0 × ((whole : History)
-        → HasAnalysed 0 whole (history before) scan.old.tables
-        → HasAnalysed 0 whole (history after) scan.new.tables)) }
-    ensures tallied { IfOk result (λ x. (text : List ℕ) (whole before : LogContent) (torn : ℕ)
-        (images : List Page) → S.text source.old ≡ Some text → Reads text whole torn
-        → IsMark text before mark
-        → TalliedOrRefused whole images mark.lsn scan.old.fault scan.old.tallies
-        → TalliedOrRefused whole images x.0.lsn scan.new.fault scan.new.tallies) }
-    ensures ends { IfOk result (λ x. (text : List ℕ) (before : LogContent)
-        → S.text source.old ≡ Some text → IsMark text before mark → x.0.lsn ≡ mark.lsn
-        → Reads text before x.1) }
-    ensures no_transaction_0 { OnOk result (entry_at 0 scan.old.tables.entries ≡ None
-        → entry_at 0 scan.new.tables.entries ≡ None) }
-    ensures fault { IfErr result (λ e. (text : List ℕ) (before : LogContent)
-        → S.text source.old ≡ Some text → IsMark text before mark
-        → BASED_HEADER_BYTES + LONGEST_FRAME ≤ length room.old → LogCause text e) }
-    ensures same { Keeps (S.text source.old) (S.text source.new) }
-    ensures no_failure { OnOk result (S.failures source.new ≡ S.failures source.old) }
-    ensures cause { IfErr result (λ e. S.failures source.new
-        ≡ S.failures source.old + failures_of_pass e) }
+    ensures seen { IfOk result (λ x. GoesOn (S.text source.old) mark
+        (ScansOn scan.old scan.new) x.0) }
+    ensures tallied { IfOk result (λ x. TalliesAfter (S.text source.old) mark x.0
+        scan.old scan.new) }
+    ensures ends { IfOk result (λ x. EndsAt (S.text source.old) mark x.0 x.1) }
+    ensures no_transaction_0 { OnOk result (HasNone0 scan.old.tables → HasNone0 scan.new.tables) }
+    ensures fault { IfErr result (MarkCause (S.text source.old) mark) }
+    ensures source { HasRead S.text S.failures source.old source.new result }
 {
     let (piece, next, torn) = next_piece(alloc, source, mark, room)?;
     scan_piece(&piece, scan)?;
@@ -182,16 +141,12 @@ fn take_piece<S: Reread>(
 /// error is `NoResource`.
 fn finish_scan(scan: ForwardScan, base: u64) -> Result<(Tables, Result<TallyScan, Fault>), Fault>
     requires { base ≤ LARGEST_BASE }
-    ensures tables { IfOk result (λ x. (log : LogContent) → base_lsn (history log) ≡ base
-        → HasAnalysed 0 (history log) (history log) scan.tables → AreTablesOf log 0 x.0) }
-    ensures lawful { IfOk result (λ x. (over : BasePages) (log : LogContent) (store : StoreContent)
-        → Lawful over log store → base_lsn (history log) ≡ base
-        → HasAnalysed store.master (history log) (history log) scan.tables
-        → AreTrue log store x.0) }
-    ensures no_transaction_0 { entry_at 0 scan.tables.entries ≡ None
-        → IfOk result (λ x. entry_for 0 x.0.transactions ≡ None) }
-    ensures tallies { IfOk result (λ x. IfOk x.1 (λ tallies. (scan.fault ≡ None)
-        × (tallies ≡ scan.tallies))) }
+    ensures tables { IfOk result (λ x. ForAnalysed base scan.tables
+        (λ log. AreTablesOf log 0 x.0)) }
+    ensures lawful { IfOk result (λ x. ForAnalysed base scan.tables (AreTrueIfLawful 0 x.0)) }
+    ensures no_transaction_0 { HasNone0 scan.tables → IfOk result (λ x. AreWithout0 x.0) }
+    ensures tallies { IfOk result (λ x. IfOk x.1 (λ all. (scan.fault ≡ None)
+        × (all ≡ scan.tallies))) }
     ensures refused { IfOk result (λ x. IfErr x.1 (λ e. scan.fault ≡ Some e)) }
     ensures err { IsOkUnless result NoResource }
 {
@@ -232,35 +187,19 @@ pub fn read_forward<S: Reread, P: Pages>(
     room: &mut [u8],
     pages: &P,
 ) -> Result<ForwardReading, PassFault>
-    requires room { BASED_HEADER_BYTES ≤ length room.old }
-    requires reach { length room.old < 2 ^ 63 }
-    ensures found { IfOk result (λ x. (text : List ℕ) → S.text source.old ≡ Some text
-        → AreFound text (length room.old) x.marks x.torn) }
-    ensures tables { IfOk result (λ x. (text : List ℕ) (whole : LogContent) (torn : ℕ)
-        → S.text source.old ≡ Some text → Reads text whole torn → AreTablesOf whole 0 x.tables) }
-    ensures lawful { IfOk result (λ x. (text : List ℕ) (whole : LogContent) (torn : ℕ)
-        (over : BasePages) (before : StoreContent)
-        → S.text source.old ≡ Some text → Reads text whole torn
-        → Lawful over whole before → before.master ≡ 0 → AreTrue whole before x.tables) }
-    ensures no_transaction_0 { IfOk result (λ x. entry_for 0 x.tables.transactions ≡ None) }
-    ensures tallied { IfOk result (λ x. (stored shown : List Page)
-        → P.shows pages.now stored shown → AreNumbered shown
-        → (text : List ℕ) (whole : LogContent) (torn : ℕ)
-        → S.text source.old ≡ Some text → Reads text whole torn
-        → IfOk x.tallies (AreTalliedByAll whole shown (last_lsn (history whole)))) }
-    ensures count { IfOk result (λ x. IfOk x.tallies (λ scan. length scan.tallies
+    requires room { IsRoom (length room.old) }
+    ensures found { IfOk result (λ x. FindsMarks (S.text source.old) (length room.old)
+        x.marks x.torn) }
+    ensures tables { IfOk result (λ x. ForLog (S.text source.old)
+        (λ log. AreTablesOf log 0 x.tables)) }
+    ensures lawful { IfOk result (λ x. ForLog (S.text source.old) (AreTrueIfLawful 0 x.tables)) }
+    ensures no_transaction_0 { IfOk result (λ x. AreWithout0 x.tables) }
+    ensures tallied { IfOk result (AreTalliedIn P.Pages (S.text source.old) pages.now) }
+    ensures count { IfOk result (λ x. IfOk x.tallies (λ all. length all.tallies
         ≡ P.count pages.now)) }
-    ensures refused { IfOk result (λ x. (stored shown : List Page)
-        → P.shows pages.now stored shown → AreNumbered shown
-        → (text : List ℕ) (whole : LogContent) (torn : ℕ)
-        → S.text source.old ≡ Some text → Reads text whole torn
-        → IfErr x.tallies (RedoFault whole (length shown) x.tables.redo_lsn 1)) }
-    ensures fault { IfErr result (λ e. (text : List ℕ) → S.text source.old ≡ Some text
-        → BASED_HEADER_BYTES + LONGEST_FRAME ≤ length room.old → LogCause text e) }
-    ensures same { Keeps (S.text source.old) (S.text source.new) }
-    ensures no_failure { OnOk result (S.failures source.new ≡ S.failures source.old) }
-    ensures cause { IfErr result (λ e. S.failures source.new
-        ≡ S.failures source.old + failures_of_pass e) }
+    ensures refused { IfOk result (AreRefused P.Pages (S.text source.old) pages.now) }
+    ensures fault { IfErr result (TextCause (S.text source.old)) }
+    ensures source { HasRead S.text S.failures source.old source.new result }
 {
     let first = mark_at_start(alloc, source, room)?;
     let mut marks = Marks::begin(alloc, first)?;

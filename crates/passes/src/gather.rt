@@ -1,16 +1,10 @@
 //! The records of a log that undo looks at, gathered in one reading from its end to its beginning.
 
-ghost use Rattle.std.specs.Prelude.{◌≡◌, ◌+◌, ◌-◌, ◌*◌, ◌≤◌, ◌<◌, ◌^◌, ℕ, List, length, IfOk, IfErr, OnOk, Some};
-ghost use Rattle.std.specs.Io.KnownBytes.{Keeps};
-ghost use Rattle.log_laws.specs.Records.{LogContent, TableEntry, history};
-ghost use Rattle.wal.specs.Reads.{Reads};
-ghost use Rattle.wal.specs.declared.sizes.TheConstants.{BASED_HEADER_BYTES, LARGEST_BASE};
-ghost use Rattle.tables.specs.Tables.{losers_in};
-ghost use Rattle.undo.specs.Enough.{AreGathered};
-ghost use Rattle.undo.specs.Gathering.{IsGathering};
+ghost use Rattle.std.specs.Prelude.{length, IfOk, IfErr, OnOk};
 ghost use Rattle.undo.specs.Wants.{WantUpTo, wants_in};
-ghost use Rattle.pieces.specs.Pieces.{IsMark};
-ghost use Rattle.passes.specs.Marks.{AreMarks, AreInReach, Reaches, failures_of_pass, IsResource};
+ghost use Rattle.passes.specs.Marks.{IsLow};
+ghost use Rattle.passes.specs.Calls.{IsRoom, HasRead, IsResourceUpTo, IsResourceBetween};
+ghost use Rattle.passes.specs.Gathers.{Gathers, AreGatheredFor};
 
 use crate::piece::piece_up_to;
 use crate::{Marks, PassFault};
@@ -30,22 +24,13 @@ fn gather_piece<S: Reread>(
     room: &mut [u8],
     gathering: &mut Gathering,
 ) -> Result<(), PassFault>
-    requires room { BASED_HEADER_BYTES ≤ length room.old }
-    requires reach { mark.offset + length room.old < 2 ^ 64 }
-    requires low { mark.lsn ≤ LARGEST_BASE }
-    ensures gathered { OnOk result ((text : List ℕ) (whole before : LogContent) (torn : ℕ)
-        (losers : List TableEntry) → S.text source.old ≡ Some text → Reads text whole torn
-        → IsMark text before mark → WantUpTo upto (wants_in gathering.old.wants)
-        → IsGathering (history whole) losers gathering.old
-        → IsGathering (history whole) losers gathering.new) }
+    requires room { IsRoom (length room.old) }
+    requires low { IsLow mark }
+    ensures gathered { OnOk result (Gathers (S.text source.old) mark upto
+        gathering.old gathering.new) }
     ensures before { OnOk result (WantUpTo mark.lsn (wants_in gathering.new.wants)) }
-    ensures fault { IfErr result (λ e. (text : List ℕ) (whole before : LogContent) (torn : ℕ)
-        → S.text source.old ≡ Some text → Reads text whole torn → IsMark text before mark
-        → Reaches text (mark.offset + length room.old - BASED_HEADER_BYTES) upto → IsResource e) }
-    ensures same { Keeps (S.text source.old) (S.text source.new) }
-    ensures no_failure { OnOk result (S.failures source.new ≡ S.failures source.old) }
-    ensures cause { IfErr result (λ e. S.failures source.new
-        ≡ S.failures source.old + failures_of_pass e) }
+    ensures fault { IfErr result (IsResourceUpTo (S.text source.old) mark (length room.old) upto) }
+    ensures source { HasRead S.text S.failures source.old source.new result }
 {
     let piece = piece_up_to(alloc, source, mark, upto, room)?;
     gathering.take(alloc, &piece)?;
@@ -65,18 +50,11 @@ pub fn gather_for_undo<S: Reread>(
     room: &mut [u8],
     tables: &Tables,
 ) -> Result<Gathered, PassFault>
-    requires room { BASED_HEADER_BYTES ≤ length room.old }
-    requires reach { length room.old < 2 ^ 63 }
-    ensures gathered { IfOk result (λ gathered. (text : List ℕ) (whole : LogContent) (torn : ℕ)
-        → S.text source.old ≡ Some text → Reads text whole torn → AreMarks text whole marks.now
-        → AreGathered (history whole) (history gathered) (losers_in tables.now)) }
-    ensures fault { IfErr result (λ e. (text : List ℕ) (whole : LogContent) (torn : ℕ)
-        → S.text source.old ≡ Some text → Reads text whole torn → AreMarks text whole marks.now
-        → AreInReach (length room.old) marks.now → IsResource e) }
-    ensures same { Keeps (S.text source.old) (S.text source.new) }
-    ensures no_failure { OnOk result (S.failures source.new ≡ S.failures source.old) }
-    ensures cause { IfErr result (λ e. S.failures source.new
-        ≡ S.failures source.old + failures_of_pass e) }
+    requires room { IsRoom (length room.old) }
+    ensures gathered { IfOk result (AreGatheredFor (S.text source.old) marks.now tables.now) }
+    ensures fault { IfErr result (IsResourceBetween (S.text source.old) marks.now
+        (length room.old)) }
+    ensures source { HasRead S.text S.failures source.old source.new result }
 {
     let base = marks.first().lsn;
     let count = marks.count();

@@ -1,19 +1,10 @@
 //! A restart over a log that a device holds, which is read in pieces.
 
-ghost use Rattle.std.specs.Prelude.{◌≡◌, ◌+◌, ◌*◌, ◌≤◌, ◌<◌, ◌^◌, ℕ, List, length, IfOk, IfErr, OnOk, MatchResult, Some, None};
-ghost use Rattle.std.specs.Io.KnownBytes.{Keeps};
-ghost use Rattle.page.specs.Store.{StoreContent};
+ghost use Rattle.std.specs.Prelude.{◌+◌, ◌*◌, ◌≤◌, ◌^◌, length, IfOk, IfErr, OnOk};
 ghost use Rattle.changes.specs.Numbered.{StayNumbered};
-ghost use Rattle.log_laws.specs.Records.{LogContent, history};
-ghost use Rattle.log_laws.specs.Meaning.{BasePages};
-ghost use Rattle.wal.specs.Reads.{Reads};
-ghost use Rattle.log_laws.specs.Store.{Lawful};
-ghost use Rattle.log_laws.specs.Undo.{entry_for};
-ghost use Rattle.wal.specs.declared.sizes.TheConstants.{BASED_HEADER_BYTES, LONGEST_FRAME};
-ghost use Rattle.tables.specs.Lawful.{AreTrue};
 ghost use Rattle.undo.specs.Appended.{HaveUpdates, AreFit};
-ghost use Rattle.passes.specs.Marks.{AreFound, failures_of_pass, IsResource};
-ghost use Rattle.passes.specs.InPieces.{AreAlike, ReadsAsLog, InPiecesCause, ForStore, ShowRedone, ShowRestart, ShowRestored};
+ghost use Rattle.passes.specs.InPieces.{GoesForward, FailsOn, StopsForward, SplitsLog, RestartsOn, RestoresOn, GathersAlike};
+ghost use Rattle.passes.specs.Calls.{IsRoom, HasRead, FindsMarks};
 
 use crate::fresh::{ForwardReading, read_forward};
 use crate::repeat::end_redo;
@@ -63,31 +54,13 @@ fn go_at_once<S: Reread, P: Pages>(
     room: &mut [u8],
     pages: &mut P,
 ) -> Result<Forward, PassFault>
-    requires room { BASED_HEADER_BYTES + LONGEST_FRAME ≤ length room.old }
-    requires reach { length room.old < 2 ^ 63 }
-    ensures found { IfOk result (λ x. (text : List ℕ) → S.text source.old ≡ Some text
-        → AreFound text (length room.old) x.marks x.torn) }
-    ensures redone { IfOk result (λ x. (text : List ℕ) (whole : LogContent) (torn : ℕ)
-        → S.text source.old ≡ Some text → Reads text whole torn
-        → ForStore P.Pages pages.old 0 (λ before stored.
-        ShowRedone P.Pages whole before stored x.tables x.applied pages.new)) }
-    ensures truth { IfOk result (λ x. (text : List ℕ) (whole : LogContent) (torn : ℕ)
-        (base : BasePages) (before : StoreContent) → S.text source.old ≡ Some text
-        → Reads text whole torn → Lawful base whole before → before.master ≡ 0
-        → AreTrue whole before x.tables) }
-    ensures no_transaction_0 { IfOk result (λ x. entry_for 0 x.tables.transactions ≡ None) }
-    ensures numbered { OnOk result (StayNumbered P.Pages pages.old pages.new) }
-    // On a lawful log and its store, the only errors are a failed device and a lack of memory.
-    ensures lawful { IfErr result (λ e. (text : List ℕ) (whole : LogContent) (torn : ℕ)
-        (base : BasePages) → S.text source.old ≡ Some text → Reads text whole torn
-        → ForStore P.Pages pages.old 0 (λ before stored.
-        Lawful base whole before → IsResource e)) }
-    ensures fault { IfErr result (λ e. (text : List ℕ) → S.text source.old ≡ Some text
-        → ForStore P.Pages pages.old 0 (λ before stored. InPiecesCause text before e)) }
-    ensures same { Keeps (S.text source.old) (S.text source.new) }
-    ensures no_failure { OnOk result (S.failures source.new ≡ S.failures source.old) }
-    ensures cause { IfErr result (λ e. S.failures source.new
-        ≡ S.failures source.old + failures_of_pass e) }
+    requires room { IsRoom (length room.old) }
+    ensures found { IfOk result (λ x. FindsMarks (S.text source.old) (length room.old)
+        x.marks x.torn) }
+    ensures answer { IfOk result (GoesForward P.Pages (S.text source.old) 0
+        pages.old pages.new) }
+    ensures fault { IfErr result (StopsForward P.Pages (S.text source.old) 0 pages.old) }
+    ensures source { HasRead S.text S.failures source.old source.new result }
 {
     let read = read_forward(alloc, source, room, pages)?;
     check_lsns(read.marks.end().lsn, pages)?;
@@ -115,31 +88,13 @@ fn go_by_passes<S: Reread, P: Pages>(
     master: u64,
     pages: &mut P,
 ) -> Result<Forward, PassFault>
-    requires room { BASED_HEADER_BYTES + LONGEST_FRAME ≤ length room.old }
-    requires reach { length room.old < 2 ^ 63 }
-    ensures found { IfOk result (λ x. (text : List ℕ) → S.text source.old ≡ Some text
-        → AreFound text (length room.old) x.marks x.torn) }
-    ensures redone { IfOk result (λ x. (text : List ℕ) (whole : LogContent) (torn : ℕ)
-        → S.text source.old ≡ Some text → Reads text whole torn
-        → ForStore P.Pages pages.old master (λ before stored.
-        ShowRedone P.Pages whole before stored x.tables x.applied pages.new)) }
-    ensures truth { IfOk result (λ x. (text : List ℕ) (whole : LogContent) (torn : ℕ)
-        (base : BasePages) (before : StoreContent) → S.text source.old ≡ Some text
-        → Reads text whole torn → Lawful base whole before → before.master ≡ master
-        → AreTrue whole before x.tables) }
-    ensures no_transaction_0 { IfOk result (λ x. entry_for 0 x.tables.transactions ≡ None) }
-    ensures numbered { OnOk result (StayNumbered P.Pages pages.old pages.new) }
-    // On a lawful log and its store, the only errors are a failed device and a lack of memory.
-    ensures lawful { IfErr result (λ e. (text : List ℕ) (whole : LogContent) (torn : ℕ)
-        (base : BasePages) → S.text source.old ≡ Some text → Reads text whole torn
-        → ForStore P.Pages pages.old master (λ before stored.
-        Lawful base whole before → IsResource e)) }
-    ensures fault { IfErr result (λ e. (text : List ℕ) → S.text source.old ≡ Some text
-        → ForStore P.Pages pages.old master (λ before stored. InPiecesCause text before e)) }
-    ensures same { Keeps (S.text source.old) (S.text source.new) }
-    ensures no_failure { OnOk result (S.failures source.new ≡ S.failures source.old) }
-    ensures cause { IfErr result (λ e. S.failures source.new
-        ≡ S.failures source.old + failures_of_pass e) }
+    requires room { IsRoom (length room.old) }
+    ensures found { IfOk result (λ x. FindsMarks (S.text source.old) (length room.old)
+        x.marks x.torn) }
+    ensures answer { IfOk result (GoesForward P.Pages (S.text source.old) master
+        pages.old pages.new) }
+    ensures fault { IfErr result (StopsForward P.Pages (S.text source.old) master pages.old) }
+    ensures source { HasRead S.text S.failures source.old source.new result }
 {
     let (marks, torn) = find_marks(alloc, source, room)?;
     check_lsns(marks.end().lsn, pages)?;
@@ -167,31 +122,13 @@ fn go_forward<S: Reread, P: Pages>(
     master: u64,
     pages: &mut P,
 ) -> Result<Forward, PassFault>
-    requires room { BASED_HEADER_BYTES + LONGEST_FRAME ≤ length room.old }
-    requires reach { length room.old < 2 ^ 63 }
-    ensures found { IfOk result (λ x. (text : List ℕ) → S.text source.old ≡ Some text
-        → AreFound text (length room.old) x.marks x.torn) }
-    ensures redone { IfOk result (λ x. (text : List ℕ) (whole : LogContent) (torn : ℕ)
-        → S.text source.old ≡ Some text → Reads text whole torn
-        → ForStore P.Pages pages.old master (λ before stored.
-        ShowRedone P.Pages whole before stored x.tables x.applied pages.new)) }
-    ensures truth { IfOk result (λ x. (text : List ℕ) (whole : LogContent) (torn : ℕ)
-        (base : BasePages) (before : StoreContent) → S.text source.old ≡ Some text
-        → Reads text whole torn → Lawful base whole before → before.master ≡ master
-        → AreTrue whole before x.tables) }
-    ensures no_transaction_0 { IfOk result (λ x. entry_for 0 x.tables.transactions ≡ None) }
-    ensures numbered { OnOk result (StayNumbered P.Pages pages.old pages.new) }
-    // On a lawful log and its store, the only errors are a failed device and a lack of memory.
-    ensures lawful { IfErr result (λ e. (text : List ℕ) (whole : LogContent) (torn : ℕ)
-        (base : BasePages) → S.text source.old ≡ Some text → Reads text whole torn
-        → ForStore P.Pages pages.old master (λ before stored.
-        Lawful base whole before → IsResource e)) }
-    ensures fault { IfErr result (λ e. (text : List ℕ) → S.text source.old ≡ Some text
-        → ForStore P.Pages pages.old master (λ before stored. InPiecesCause text before e)) }
-    ensures same { Keeps (S.text source.old) (S.text source.new) }
-    ensures no_failure { OnOk result (S.failures source.new ≡ S.failures source.old) }
-    ensures cause { IfErr result (λ e. S.failures source.new
-        ≡ S.failures source.old + failures_of_pass e) }
+    requires room { IsRoom (length room.old) }
+    ensures found { IfOk result (λ x. FindsMarks (S.text source.old) (length room.old)
+        x.marks x.torn) }
+    ensures answer { IfOk result (GoesForward P.Pages (S.text source.old) master
+        pages.old pages.new) }
+    ensures fault { IfErr result (StopsForward P.Pages (S.text source.old) master pages.old) }
+    ensures source { HasRead S.text S.failures source.old source.new result }
 {
     if master == 0 {
         go_at_once(alloc, source, room, pages)
@@ -216,27 +153,18 @@ pub fn restart_in_pieces<S: Reread, P: Pages>(
     master: u64,
     pages: &mut P,
 ) -> Result<Restarted, PassFault>
-    requires room { BASED_HEADER_BYTES + LONGEST_FRAME ≤ length room.old }
-    requires reach { length room.old < 2 ^ 63 }
+    requires room { IsRoom (length room.old) }
     // On a lawful log and its store, over any base pages: the log's tail and the store that the
     // winners leave.
-    ensures lawful { (text : List ℕ) (whole : LogContent) (torn : ℕ) (base : BasePages)
-        → S.text source.old ≡ Some text → Reads text whole torn
-        → ForStore P.Pages pages.old master (λ before stored. Lawful base whole before
-        → MatchResult result (λ x. ShowRestored P.Pages base whole before stored x pages.new)
-        IsResource) }
+    ensures lawful { RestoresOn P.Pages (S.text source.old) master pages.old pages.new
+        result }
 
     // On success: the result of analysis, redo and undo on the log and the store.
-    ensures reads { IfOk result (λ x. (text : List ℕ) → S.text source.old ≡ Some text
-        → ReadsAsLog text x.kept x.torn) }
-    ensures restarts { IfOk result (λ x. (text : List ℕ) (whole : LogContent) (torn : ℕ)
-        → S.text source.old ≡ Some text → Reads text whole torn
-        → ForStore P.Pages pages.old master (λ before stored.
-        ShowRestart P.Pages whole before stored x pages.new)) }
+    ensures reads { IfOk result (SplitsLog (S.text source.old)) }
+    ensures restarts { IfOk result (RestartsOn P.Pages (S.text source.old) master
+        pages.old pages.new) }
     ensures numbered { OnOk result (StayNumbered P.Pages pages.old pages.new) }
-    ensures alike { IfOk result (λ x. (text : List ℕ) (whole : LogContent) (torn : ℕ)
-        → S.text source.old ≡ Some text → Reads text whole torn
-        → AreAlike whole x.gathered x.outcome.appended.items) }
+    ensures alike { IfOk result (GathersAlike (S.text source.old)) }
 
     // Each update that is named was gathered. Each appended record has an encoding, and they are so
     // few that there are LSNs for them after the log.
@@ -246,12 +174,8 @@ pub fn restart_in_pieces<S: Reread, P: Pages>(
         ≤ 2 * length x.gathered.records + 2 ^ 32) }
 
     // On an error, its condition holds for the input, a device and memory aside.
-    ensures fault { IfErr result (λ e. (text : List ℕ) → S.text source.old ≡ Some text
-        → ForStore P.Pages pages.old master (λ before stored. InPiecesCause text before e)) }
-    ensures same { Keeps (S.text source.old) (S.text source.new) }
-    ensures no_failure { OnOk result (S.failures source.new ≡ S.failures source.old) }
-    ensures cause { IfErr result (λ e. S.failures source.new
-        ≡ S.failures source.old + failures_of_pass e) }
+    ensures fault { IfErr result (FailsOn P.Pages (S.text source.old) master pages.old) }
+    ensures source { HasRead S.text S.failures source.old source.new result }
 {
     let forward = go_forward(alloc, source, room, master, pages)?;
     let Forward {

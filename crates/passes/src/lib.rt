@@ -6,7 +6,8 @@
 //! The promise: what it returns, and what it makes of the pages, is what a restart in memory
 //! returns and makes.
 //!
-//! The modules, in the order of the way through it, with their definitions in `specs/`:
+//! The modules, in the order of the way through it, with their definitions in `specs/`. Those that
+//! most calls share are in `Calls`.
 //!
 //! - `in_pieces`: the restart, with a checkpoint by the passes below, without one by `fresh`
 //!   (`InPieces`).
@@ -18,7 +19,7 @@
 //! - `analyse`: analysis, from the mark before the checkpoint on (`Tables`).
 //! - `repeat`: redo, which takes the tallies from the mark before its first record on, and then the
 //!   images (`Redoing`).
-//! - `gather`: what undo looks at, from the end of the log to its beginning.
+//! - `gather`: what undo looks at, from the end of the log to its beginning (`Gathers`).
 //! - `fault`: why a pass stops, the device or a fault of the bytes.
 #![tactic(auto)]
 

@@ -1,10 +1,10 @@
 //! The marks of a log, between which it is read in pieces.
 
-ghost use Rattle.std.specs.Prelude.{◌≡◌, ◌⊎◌, ◌+◌, ◌-◌, ◌*◌, ◌^◌, ◌<◌, ◌≤◌, ◌∷◌, [], ◌++◌, ℕ, length, slice_index_or, IfOk, OnOk, OnErr, IsOkUnless, IsTrue};
+ghost use Rattle.std.specs.Prelude.{◌≡◌, ◌⊎◌, ◌+◌, ◌-◌, ◌*◌, ◌^◌, ◌<◌, ◌≤◌, ◌∷◌, [], ◌++◌, length, slice_index_or, IfOk, OnOk, OnErr, IsOkUnless, IsTrue};
 ghost use Rattle.page.specs.declared.fault.Fault.TheVariants.{NoResource};
-ghost use Rattle.wal.specs.declared.sizes.TheConstants.{HEADER_BYTES, LARGEST_BASE, SMALLEST_FRAME};
+ghost use Rattle.wal.specs.declared.sizes.TheConstants.{HEADER_BYTES, SMALLEST_FRAME};
 ghost use Rattle.pieces.specs.declared.mark.Mark.{Mark};
-ghost use Rattle.passes.specs.Marks.{IsLow, IsNotBelow, IsWithinOf, AreWithin};
+ghost use Rattle.passes.specs.Marks.{IsLow, IsNotBelow, IsWithinOf, AreWithin, lsn_at, IsMarkAmong, IsFirstAmong, IsLastAmong};
 
 use page::Fault;
 use pieces::Mark;
@@ -61,6 +61,7 @@ impl Marks {
     /// The first mark.
     pub fn first(&self) -> Mark
         ensures first { (d : Mark) → result ≡ slice_index_or self.now 0 d }
+        ensures base { IsFirstAmong self.now result }
         ensures low { IsLow result }
     {
         self.list[0]
@@ -70,6 +71,8 @@ impl Marks {
     pub fn end(&self) -> Mark
         ensures end { (d : Mark) → result ≡ slice_index_or self.now (length self.now - 1) d }
         ensures some { 0 < length self.now }
+        ensures is_mark { IsMarkAmong self.now result }
+        ensures last { IsLastAmong self.now result }
         ensures low { IsLow result }
     {
         self.list[self.list.len() - 1]
@@ -98,8 +101,8 @@ impl Marks {
 
     /// How many records are between the first mark and the last.
     pub fn count(&self) -> u64
-        ensures count { (d : Mark) → (slice_index_or self.now 0 d).lsn + result
-            ≡ (slice_index_or self.now (length self.now - 1) d).lsn }
+        ensures count { (d : Mark) → lsn_at self.now 0 d + result
+            ≡ lsn_at self.now (length self.now - 1) d }
         ensures few { HEADER_BYTES + SMALLEST_FRAME * result < 2 ^ 63 }
     {
         self.list[self.list.len() - 1].lsn - self.list[0].lsn
@@ -117,6 +120,7 @@ impl Marks {
     pub fn at(&self, place: usize) -> Mark
         requires { place < length self.now }
         ensures at { (d : Mark) → result ≡ slice_index_or self.now place d }
+        ensures is_mark { IsMarkAmong self.now result }
         ensures low { IsLow result }
     {
         self.list[place]
@@ -126,9 +130,9 @@ impl Marks {
     /// is a binary search.
     pub fn place_before(&self, lsn: u64) -> usize
         ensures within { result < length self.now }
-        ensures before { (d : Mark) → (result ≡ 0) ⊎ ((slice_index_or self.now result d).lsn < lsn) }
+        ensures before { (d : Mark) → (result ≡ 0) ⊎ (lsn_at self.now result d < lsn) }
         ensures next { (d : Mark) → result + 1 < length self.now
-            → lsn ≤ (slice_index_or self.now (result + 1) d).lsn }
+            → lsn ≤ lsn_at self.now (result + 1) d }
     {
         let mut place = 0;
         let mut above = self.list.len();

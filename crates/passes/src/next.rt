@@ -1,14 +1,11 @@
 //! The piece after a mark, and the mark after the piece.
 
-ghost use Rattle.std.specs.Prelude.{◌≡◌, ◌+◌, ◌-◌, ◌≤◌, ◌<◌, ◌^◌, ℕ, List, length, IfOk, IfErr, OnOk, Some};
-ghost use Rattle.std.specs.Io.KnownBytes.{Keeps};
-ghost use Rattle.log_laws.specs.Records.{LogContent, history, last_lsn, base_lsn};
-ghost use Rattle.wal.specs.Reads.{Reads};
-ghost use Rattle.wal.specs.declared.sizes.TheConstants.{BASED_HEADER_BYTES, LARGEST_BASE, LONGEST_FRAME};
-ghost use Rattle.pieces.specs.declared.mark.Mark.{Mark};
-ghost use Rattle.pieces.specs.Pieces.{IsMark};
-ghost use Rattle.passes.specs.Marks.{failures_of_pass, IsResource, LogCause};
-ghost use Rattle.passes.specs.Next.{ComesNext, IsBefore, PieceCause};
+ghost use Rattle.std.specs.Prelude.{◌≡◌, ◌+◌, ◌≤◌, ◌<◌, ◌^◌, length, IfOk, IfErr};
+ghost use Rattle.log_laws.specs.Records.{history, last_lsn, base_lsn};
+ghost use Rattle.wal.specs.declared.sizes.TheConstants.{BASED_HEADER_BYTES, LARGEST_BASE};
+ghost use Rattle.passes.specs.Marks.{IsInReach, IsLow};
+ghost use Rattle.passes.specs.Next.{PieceCause, ComesAfter, EndsAt, IsResourceBefore};
+ghost use Rattle.passes.specs.Calls.{IsRoom, HasRead};
 
 use crate::PassFault;
 use device::Reread;
@@ -36,22 +33,11 @@ pub fn next_piece<'a, S: Reread>(
     requires low { mark.lsn ≤ LARGEST_BASE }
     ensures base { IfOk result (λ x. base_lsn (history x.0) ≡ mark.lsn) }
     ensures last { IfOk result (λ x. last_lsn (history x.0) ≡ x.1.lsn) }
-    ensures within { IfOk result (λ x. x.1.offset ≤ mark.offset
-        + (length room.old - BASED_HEADER_BYTES)) }
-    ensures next { IfOk result (λ x. (text : List ℕ) (before : LogContent)
-        → S.text source.old ≡ Some text → IsMark text before mark
-        → ComesNext text before x.1 x.0) }
-    ensures ends { IfOk result (λ x. (text : List ℕ) (before : LogContent)
-        → S.text source.old ≡ Some text → IsMark text before mark → x.1.lsn ≡ mark.lsn
-        → Reads text before x.2) }
-    ensures fault { IfErr result (λ e. (text : List ℕ) (before : LogContent)
-        → S.text source.old ≡ Some text → IsMark text before mark
-        → BASED_HEADER_BYTES + LONGEST_FRAME ≤ length room.old → LogCause text e) }
-    ensures any_room { IfErr result (PieceCause (S.text source.old) mark) }
-    ensures same { Keeps (S.text source.old) (S.text source.new) }
-    ensures no_failure { OnOk result (S.failures source.new ≡ S.failures source.old) }
-    ensures cause { IfErr result (λ e. S.failures source.new
-        ≡ S.failures source.old + failures_of_pass e) }
+    ensures within { IfOk result (λ x. IsInReach (length room.old) mark x.1) }
+    ensures next { IfOk result (λ x. ComesAfter (S.text source.old) mark x.1 x.0) }
+    ensures ends { IfOk result (λ x. EndsAt (S.text source.old) mark x.1 x.2) }
+    ensures fault { IfErr result (PieceCause (S.text source.old) mark (length room.old)) }
+    ensures source { HasRead S.text S.failures source.old source.new result }
 {
     let full = room.len();
     let count = read_piece(source, mark, room)?;
@@ -74,9 +60,9 @@ pub fn next_piece<'a, S: Reread>(
 /// piece, and the mark after its last record.
 ///
 /// Errors: `Failed` if the source failed; `NoResource` if memory was refused, or if the offset of
-/// the mark after the piece is above 2^63 - 1; `BadLength` with the mark's offset if the next frame
-/// does not fit in the room. Any other fault is returned only if the source no longer holds what it
-/// held: `BadLsn` with the mark's offset if no record comes, or one after `end`.
+/// the mark after the piece is above 2^63 - 1. Any other fault is returned only if the source no
+/// longer holds what it held: `BadLsn` with the mark's offset if no record comes, or one after
+/// `end`.
 pub fn piece_before<'a, S: Reread>(
     alloc: Global,
     source: &mut S,
@@ -84,25 +70,18 @@ pub fn piece_before<'a, S: Reread>(
     end: u64,
     room: &'a mut [u8],
 ) -> Result<(Log<'a>, Mark), PassFault>
-    requires room { BASED_HEADER_BYTES ≤ length room.old }
-    requires reach { mark.offset + length room.old < 2 ^ 64 }
+    requires room { IsRoom (length room.old) }
+    requires mark { IsLow mark }
     requires before { mark.lsn < end }
     requires low { end ≤ LARGEST_BASE }
     ensures base { IfOk result (λ x. base_lsn (history x.0) ≡ mark.lsn) }
     ensures last { IfOk result (λ x. last_lsn (history x.0) ≡ x.1.lsn) }
     ensures rises { IfOk result (λ x. mark.lsn < x.1.lsn) }
     ensures within { IfOk result (λ x. x.1.lsn ≤ end) }
-    ensures reach { IfOk result (λ x. x.1.offset ≤ LARGEST_BASE) }
-    ensures next { IfOk result (λ x. (text : List ℕ) (before : LogContent)
-        → S.text source.old ≡ Some text → IsMark text before mark
-        → ComesNext text before x.1 x.0) }
-    ensures fault { IfErr result (λ e. (text : List ℕ) (whole before : LogContent)
-        → S.text source.old ≡ Some text → IsBefore text whole before mark end
-        → BASED_HEADER_BYTES + LONGEST_FRAME ≤ length room.old → IsResource e) }
-    ensures same { Keeps (S.text source.old) (S.text source.new) }
-    ensures no_failure { OnOk result (S.failures source.new ≡ S.failures source.old) }
-    ensures cause { IfErr result (λ e. S.failures source.new
-        ≡ S.failures source.old + failures_of_pass e) }
+    ensures low { IfOk result (λ x. IsLow x.1) }
+    ensures next { IfOk result (λ x. ComesAfter (S.text source.old) mark x.1 x.0) }
+    ensures fault { IfErr result (IsResourceBefore (S.text source.old) mark end) }
+    ensures source { HasRead S.text S.failures source.old source.new result }
 {
     let (log, next, _) = next_piece(alloc, source, mark, room)?;
     if next.lsn <= mark.lsn || end < next.lsn {

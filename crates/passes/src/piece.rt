@@ -1,13 +1,10 @@
 //! A piece of a log that is read once more.
 
-ghost use Rattle.std.specs.Prelude.{◌≡◌, ◌+◌, ◌-◌, ◌≤◌, ◌<◌, ◌^◌, ℕ, List, length, IfOk, IfErr, OnOk, Some};
-ghost use Rattle.std.specs.Io.KnownBytes.{Keeps};
-ghost use Rattle.log_laws.specs.Records.{LogContent, history, last_lsn, base_lsn};
-ghost use Rattle.wal.specs.Reads.{Reads};
-ghost use Rattle.wal.specs.declared.sizes.TheConstants.{BASED_HEADER_BYTES, LARGEST_BASE};
-ghost use Rattle.tables.specs.Pieces.{IsPieceOf};
-ghost use Rattle.pieces.specs.Pieces.{IsMark};
-ghost use Rattle.passes.specs.Marks.{failures_of_pass, IsResource, Reaches};
+ghost use Rattle.std.specs.Prelude.{◌≡◌, ◌≤◌, length, IfOk, IfErr};
+ghost use Rattle.log_laws.specs.Records.{history, last_lsn, base_lsn};
+ghost use Rattle.passes.specs.Marks.{IsLow};
+ghost use Rattle.passes.specs.Calls.{IsRoom, HasRead, IsResourceUpTo};
+ghost use Rattle.passes.specs.Next.{IsPieceAfter};
 
 use crate::PassFault;
 use device::Reread;
@@ -28,21 +25,13 @@ pub fn piece_up_to<'a, S: Reread>(
     upto: u64,
     room: &'a mut [u8],
 ) -> Result<Log<'a>, PassFault>
-    requires room { BASED_HEADER_BYTES ≤ length room.old }
-    requires reach { mark.offset + length room.old < 2 ^ 64 }
-    requires low { mark.lsn ≤ LARGEST_BASE }
-    ensures piece { IfOk result (λ log. (text : List ℕ) (whole before : LogContent) (torn : ℕ)
-        → S.text source.old ≡ Some text → Reads text whole torn → IsMark text before mark
-        → IsPieceOf (history whole) (history log)) }
+    requires room { IsRoom (length room.old) }
+    requires low { IsLow mark }
+    ensures piece { IfOk result (IsPieceAfter (S.text source.old) mark) }
     ensures base { IfOk result (λ log. base_lsn (history log) ≡ mark.lsn) }
     ensures reaches { IfOk result (λ log. upto ≤ last_lsn (history log)) }
-    ensures fault { IfErr result (λ e. (text : List ℕ) (whole before : LogContent) (torn : ℕ)
-        → S.text source.old ≡ Some text → Reads text whole torn → IsMark text before mark
-        → Reaches text (mark.offset + length room.old - BASED_HEADER_BYTES) upto → IsResource e) }
-    ensures same { Keeps (S.text source.old) (S.text source.new) }
-    ensures no_failure { OnOk result (S.failures source.new ≡ S.failures source.old) }
-    ensures cause { IfErr result (λ e. S.failures source.new
-        ≡ S.failures source.old + failures_of_pass e) }
+    ensures fault { IfErr result (IsResourceUpTo (S.text source.old) mark (length room.old) upto) }
+    ensures source { HasRead S.text S.failures source.old source.new result }
 {
     let count = read_piece(source, mark, room)?;
     let (log, _) = piece_log(alloc, mark, &room[..count])?;

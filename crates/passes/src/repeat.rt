@@ -1,23 +1,14 @@
 //! Redo by a log that a device holds, which is read in pieces.
 
-ghost use Rattle.std.specs.Prelude.{◌≡◌, ◌+◌, ◌-◌, ◌≤◌, ◌<◌, ◌^◌, ℕ, List, All, length, drop, slice_index_or, IfOk, IfErr, OnOk, Some};
-ghost use Rattle.std.specs.Io.KnownBytes.{Keeps};
+ghost use Rattle.std.specs.Prelude.{◌≡◌, ◌≤◌, ◌<◌, All, length, drop, IfOk, IfErr, OnOk};
 ghost use Rattle.std.specs.List.Sorted.{IsNonDecreasingBy};
-ghost use Rattle.page.specs.declared.page.Page.{Page};
 ghost use Rattle.changes.specs.Numbered.{StayNumbered};
 ghost use Rattle.page.specs.declared.profile.TheConstants.{SLOTS};
-ghost use Rattle.log_laws.specs.Records.{LogContent, history, base_lsn, last_lsn};
-ghost use Rattle.wal.specs.Reads.{Reads};
-ghost use Rattle.wal.specs.declared.sizes.TheConstants.{BASED_HEADER_BYTES, LARGEST_BASE, LONGEST_FRAME};
-ghost use Rattle.tables.specs.Tables.{TablesContent};
-ghost use Rattle.redo.specs.declared.tally.Tally.{Tally};
-ghost use Rattle.redo.specs.declared.wanted.Wanted.{Wanted};
-ghost use Rattle.redo.specs.Routes.{skipped};
-ghost use Rattle.redo.specs.Wanted.{IsWanted, ShowAllBut, ShowFinished};
-ghost use Rattle.pieces.specs.Pieces.{IsMark};
-ghost use Rattle.passes.specs.Marks.{AreMarks, AreInReach, IsLow, Reaches, failures_of_pass, IsResource};
-ghost use Rattle.passes.specs.Next.{IsBefore};
-ghost use Rattle.passes.specs.Redoing.{AreTalliedUpTo, RedoCause, ForShown, ShowRepeated};
+ghost use Rattle.wal.specs.declared.sizes.TheConstants.{LARGEST_BASE};
+ghost use Rattle.passes.specs.Marks.{IsLow, IsMarkAmong};
+ghost use Rattle.passes.specs.Next.{IsNextMark};
+ghost use Rattle.passes.specs.Redoing.{PrecedesRedo, TalliesOn, NextTallyCause, FetchCause, Tallies, TallyCause, FetchesNext, FetchesAll, FinishesAll, RepeatsBy, RepeatsAll, RedoStops};
+ghost use Rattle.passes.specs.Calls.{IsRoom, HasRead, IsResourceIn};
 
 use crate::piece::piece_up_to;
 use crate::{Marks, PassFault, piece_before};
@@ -32,12 +23,8 @@ use tables::Tables;
 /// one if there is none before it; the mark at the log's end if `redo_lsn` is 0.
 fn mark_to_begin(marks: &Marks, redo_lsn: u64) -> Mark
     ensures low { IsLow result }
-    ensures is_mark { (text : List ℕ) (whole : LogContent) → AreMarks text whole marks.now
-        → (before : LogContent) × IsMark text before result }
-    // Redo looks at none of the records before it.
-    ensures before { (text : List ℕ) (whole : LogContent) (torn : ℕ) → Reads text whole torn
-        → AreMarks text whole marks.now
-        → result.lsn ≤ skipped (base_lsn (history whole)) redo_lsn (last_lsn (history whole)) }
+    ensures is_mark { IsMarkAmong marks.now result }
+    ensures before { PrecedesRedo marks.now redo_lsn result }
 {
     if redo_lsn == 0 {
         return marks.end();
@@ -58,33 +45,19 @@ fn tally_piece<S: Reread>(
     room: &mut [u8],
     scan: &mut TallyScan,
 ) -> Result<Mark, PassFault>
-    requires room { BASED_HEADER_BYTES ≤ length room.old }
-    requires reach { mark.offset + length room.old < 2 ^ 64 }
+    requires room { IsRoom (length room.old) }
+    requires mark { IsLow mark }
     requires before { mark.lsn < end }
     requires low { end ≤ LARGEST_BASE }
     requires upto { scan.old.upto ≤ mark.lsn }
     ensures rises { IfOk result (λ next. mark.lsn < next.lsn) }
-    ensures reach { IfOk result (λ next. next.offset ≤ LARGEST_BASE) }
+    ensures low { IfOk result IsLow }
     ensures upto { IfOk result (λ next. scan.new.upto ≡ next.lsn) }
     ensures count { OnOk result (length scan.new.tallies ≡ length scan.old.tallies) }
-    ensures next { IfOk result (λ next. (text : List ℕ) (before : LogContent)
-        → S.text source.old ≡ Some text → IsMark text before mark
-        → (after : LogContent) × IsMark text after next) }
-    ensures tallied { IfOk result (λ next. (text : List ℕ) (whole before : LogContent)
-        (images : List Page) (tables : TablesContent) → S.text source.old ≡ Some text
-        → IsBefore text whole before mark end
-        → AreTalliedUpTo whole images tables mark.lsn scan.old
-        → AreTalliedUpTo whole images tables next.lsn scan.new) }
-    ensures fault { IfErr result (λ e. (text : List ℕ) (whole before : LogContent)
-        (images : List Page) (tables : TablesContent) → S.text source.old ≡ Some text
-        → IsBefore text whole before mark end
-        → AreTalliedUpTo whole images tables mark.lsn scan.old
-        → BASED_HEADER_BYTES + LONGEST_FRAME ≤ length room.old
-        → RedoCause whole (length images) tables.redo_lsn e) }
-    ensures same { Keeps (S.text source.old) (S.text source.new) }
-    ensures no_failure { OnOk result (S.failures source.new ≡ S.failures source.old) }
-    ensures cause { IfErr result (λ e. S.failures source.new
-        ≡ S.failures source.old + failures_of_pass e) }
+    ensures next { IfOk result (IsNextMark (S.text source.old) mark) }
+    ensures tallied { IfOk result (TalliesOn (S.text source.old) mark end scan.old scan.new) }
+    ensures fault { IfErr result (NextTallyCause (S.text source.old) mark end scan.old) }
+    ensures source { HasRead S.text S.failures source.old source.new result }
 {
     let (piece, next) = piece_before(alloc, source, mark, end, room)?;
     scan.pass(&piece)?;
@@ -101,22 +74,13 @@ fn tally_in_pieces<S: Reread, P: Pages>(
     pages: &P,
     tables: &Tables,
 ) -> Result<TallyScan, PassFault>
-    requires room { BASED_HEADER_BYTES ≤ length room.old }
-    requires reach { length room.old < 2 ^ 63 }
+    requires room { IsRoom (length room.old) }
     ensures count { IfOk result (λ scan. length scan.tallies ≡ P.count pages.now) }
-    ensures tallied { IfOk result (λ scan. (text : List ℕ) (whole : LogContent) (torn : ℕ)
-        → S.text source.old ≡ Some text → Reads text whole torn → AreMarks text whole marks.now
-        → ForShown P.Pages pages.now (λ stored images.
-        AreTalliedUpTo whole images tables.now (last_lsn (history whole)) scan)) }
-    ensures fault { IfErr result (λ e. (text : List ℕ) (whole : LogContent) (torn : ℕ)
-        → S.text source.old ≡ Some text → Reads text whole torn → AreMarks text whole marks.now
-        → BASED_HEADER_BYTES + LONGEST_FRAME ≤ length room.old
-        → ForShown P.Pages pages.now (λ stored images.
-        RedoCause whole (length images) tables.now.redo_lsn e)) }
-    ensures same { Keeps (S.text source.old) (S.text source.new) }
-    ensures no_failure { OnOk result (S.failures source.new ≡ S.failures source.old) }
-    ensures cause { IfErr result (λ e. S.failures source.new
-        ≡ S.failures source.old + failures_of_pass e) }
+    ensures tallied { IfOk result (Tallies P.Pages (S.text source.old) marks.now
+        pages.now tables.now) }
+    ensures fault { IfErr result (TallyCause P.Pages (S.text source.old) marks.now
+        pages.now tables.now) }
+    ensures source { HasRead S.text S.failures source.old source.new result }
 {
     let end = marks.end().lsn;
     let mut mark = mark_to_begin(marks, tables.redo_lsn);
@@ -142,9 +106,8 @@ fn fetch_piece<S: Reread, P: Pages>(
     wanted: &[Wanted],
     pages: &mut P,
 ) -> Result<usize, PassFault>
-    requires room { BASED_HEADER_BYTES ≤ length room.old }
-    requires reach { mark.offset + length room.old < 2 ^ 64 }
-    requires low { mark.lsn ≤ LARGEST_BASE }
+    requires room { IsRoom (length room.old) }
+    requires low { IsLow mark }
     requires some { 0 < length wanted.now }
     requires rising { IsNonDecreasingBy (λ w. w.lsn) wanted.now }
     requires pages { All (λ w. w.page < P.count pages.old) wanted.now }
@@ -153,22 +116,10 @@ fn fetch_piece<S: Reread, P: Pages>(
     ensures within { IfOk result (λ taken. taken ≤ length wanted.now) }
     ensures count { P.count pages.new ≡ P.count pages.old }
     ensures numbered { OnOk result (StayNumbered P.Pages pages.old pages.new) }
-    ensures fetched { IfOk result (λ taken. (text : List ℕ) (whole before : LogContent) (torn : ℕ)
-        (tallies : List Tally) (images stored : List Page) → S.text source.old ≡ Some text
-        → Reads text whole torn → IsMark text before mark → All (IsWanted tallies) wanted.now
-        → All (λ w. w.lsn ≤ mark.lsn → w.lsn ≤ base_lsn (history whole)) wanted.now
-        → ShowAllBut P.Pages (history whole) tallies wanted.now images stored pages.old
-        → ShowAllBut P.Pages (history whole) tallies (drop taken wanted.now)
-        images stored pages.new) }
-    ensures fault { IfErr result (λ e. (text : List ℕ) (whole before : LogContent) (torn : ℕ)
-        (d : Wanted) → S.text source.old ≡ Some text → Reads text whole torn
-        → IsMark text before mark
-        → Reaches text (mark.offset + length room.old - BASED_HEADER_BYTES)
-        (slice_index_or wanted.now 0 d).lsn → IsResource e) }
-    ensures same { Keeps (S.text source.old) (S.text source.new) }
-    ensures no_failure { OnOk result (S.failures source.new ≡ S.failures source.old) }
-    ensures cause { IfErr result (λ e. S.failures source.new
-        ≡ S.failures source.old + failures_of_pass e) }
+    ensures fetched { IfOk result (FetchesNext P.Pages (S.text source.old) mark wanted.now
+        pages.old pages.new) }
+    ensures fault { IfErr result (FetchCause (S.text source.old) mark (length room.old) wanted.now) }
+    ensures source { HasRead S.text S.failures source.old source.new result }
 {
     let piece = piece_up_to(alloc, source, mark, wanted[0].lsn, room)?;
     Ok(fetch_from(&piece, wanted, pages)?)
@@ -187,28 +138,18 @@ fn fetch_in_pieces<S: Reread, P: Pages>(
     wanted: &[Wanted],
     pages: &mut P,
 ) -> Result<usize, PassFault>
-    requires room { BASED_HEADER_BYTES ≤ length room.old }
-    requires reach { length room.old < 2 ^ 63 }
+    requires room { IsRoom (length room.old) }
     requires rising { IsNonDecreasingBy (λ w. w.lsn) wanted.now }
     requires pages { All (λ w. w.page < P.count pages.old) wanted.now }
     requires slots { All (λ w. w.slot < SLOTS) wanted.now }
     ensures count { P.count pages.new ≡ P.count pages.old }
     ensures numbered { OnOk result (StayNumbered P.Pages pages.old pages.new) }
     ensures rest { IfOk result (λ taken. All (λ w. upto < w.lsn) (drop taken wanted.now)) }
-    ensures fetched { IfOk result (λ taken. (text : List ℕ) (whole : LogContent) (torn : ℕ)
-        (tallies : List Tally) (images stored : List Page) → S.text source.old ≡ Some text
-        → Reads text whole torn → AreMarks text whole marks.now → All (IsWanted tallies) wanted.now
-        → ShowAllBut P.Pages (history whole) tallies wanted.now images stored pages.old
-        → ShowAllBut P.Pages (history whole) tallies (drop taken wanted.now)
-        images stored pages.new) }
-    ensures fault { IfErr result (λ e. (text : List ℕ) (whole : LogContent) (torn : ℕ)
-        → S.text source.old ≡ Some text → Reads text whole torn → AreMarks text whole marks.now
-        → AreInReach (length room.old) marks.now → upto ≤ last_lsn (history whole)
-        → IsResource e) }
-    ensures same { Keeps (S.text source.old) (S.text source.new) }
-    ensures no_failure { OnOk result (S.failures source.new ≡ S.failures source.old) }
-    ensures cause { IfErr result (λ e. S.failures source.new
-        ≡ S.failures source.old + failures_of_pass e) }
+    ensures fetched { IfOk result (FetchesAll P.Pages (S.text source.old) marks.now wanted.now
+        pages.old pages.new) }
+    ensures fault { IfErr result (IsResourceIn (S.text source.old) marks.now
+        (length room.old) upto) }
+    ensures source { HasRead S.text S.failures source.old source.new result }
 {
     let mut taken = 0;
     while taken < wanted.len() && wanted[taken].lsn <= upto {
@@ -228,24 +169,17 @@ fn finish_in_pieces<S: Reread, P: Pages>(
     scan: TallyScan,
     pages: &mut P,
 ) -> Result<(), PassFault>
-    requires room { BASED_HEADER_BYTES ≤ length room.old }
-    requires reach { length room.old < 2 ^ 63 }
+    requires room { IsRoom (length room.old) }
     requires count { P.count pages.old ≡ length scan.tallies }
     ensures numbered { OnOk result (StayNumbered P.Pages pages.old pages.new) }
-    ensures each { OnOk result ((text : List ℕ) (whole : LogContent) (torn : ℕ)
-        → S.text source.old ≡ Some text → Reads text whole torn → AreMarks text whole marks.now
-        → ForShown P.Pages pages.old (λ stored images.
-        ShowFinished P.Pages (history whole) scan.tallies images stored pages.new)) }
-    ensures fault { IfErr result (λ e. (text : List ℕ) (whole : LogContent) (torn : ℕ)
-        → S.text source.old ≡ Some text → Reads text whole torn → AreMarks text whole marks.now
-        → AreInReach (length room.old) marks.now → scan.upto ≤ last_lsn (history whole)
-        → IsResource e) }
-    ensures same { Keeps (S.text source.old) (S.text source.new) }
-    ensures no_failure { OnOk result (S.failures source.new ≡ S.failures source.old) }
-    ensures cause { IfErr result (λ e. S.failures source.new
-        ≡ S.failures source.old + failures_of_pass e) }
+    ensures each { OnOk result (FinishesAll P.Pages (S.text source.old) marks.now scan.tallies
+        pages.old pages.new) }
+    ensures fault { IfErr result (IsResourceIn (S.text source.old) marks.now
+        (length room.old) scan.upto) }
+    ensures source { HasRead S.text S.failures source.old source.new result }
 {
     let wanted = scan.wanted(alloc)?;
+    pages.reserve(wanted.len())?;
     fetch_in_pieces(alloc, source, marks, room, scan.upto(), &wanted, pages)?;
     scan.finish(pages);
     Ok(())
@@ -267,25 +201,14 @@ pub fn end_redo<S: Reread, P: Pages>(
     pages: &mut P,
     scan: TallyScan,
 ) -> Result<u64, PassFault>
-    requires room { BASED_HEADER_BYTES ≤ length room.old }
-    requires reach { length room.old < 2 ^ 63 }
+    requires room { IsRoom (length room.old) }
     requires count { length scan.tallies ≡ P.count pages.old }
-    // For any tables by which the tallies were counted.
-    ensures redone { IfOk result (λ applied. (text : List ℕ) (whole : LogContent) (torn : ℕ)
-        (tables : TablesContent) (images stored : List Page) → S.text source.old ≡ Some text
-        → Reads text whole torn → AreMarks text whole marks.now
-        → AreTalliedUpTo whole images tables (last_lsn (history whole)) scan
-        → P.shows pages.old stored images
-        → ShowRepeated P.Pages whole tables images stored pages.new applied) }
+    ensures redone { IfOk result (RepeatsBy P.Pages (S.text source.old) marks.now scan
+        pages.old pages.new) }
     ensures numbered { OnOk result (StayNumbered P.Pages pages.old pages.new) }
-    ensures fault { IfErr result (λ e. (text : List ℕ) (whole : LogContent) (torn : ℕ)
-        → S.text source.old ≡ Some text → Reads text whole torn → AreMarks text whole marks.now
-        → AreInReach (length room.old) marks.now → scan.upto ≤ last_lsn (history whole)
-        → IsResource e) }
-    ensures same { Keeps (S.text source.old) (S.text source.new) }
-    ensures no_failure { OnOk result (S.failures source.new ≡ S.failures source.old) }
-    ensures cause { IfErr result (λ e. S.failures source.new
-        ≡ S.failures source.old + failures_of_pass e) }
+    ensures fault { IfErr result (IsResourceIn (S.text source.old) marks.now
+        (length room.old) scan.upto) }
+    ensures source { HasRead S.text S.failures source.old source.new result }
 {
     let applied = scan.applied();
     // The log's last LSN fits, and no record counts twice, so the count fits.
@@ -304,9 +227,8 @@ pub fn end_redo<S: Reread, P: Pages>(
 ///
 /// Errors: `Failed` if the source failed; `NoSuchPage` with the LSN of the first record from
 /// `redo_lsn` on that is on a page which the store lacks; `NoResource` if memory was refused. Any
-/// other fault is returned only in these cases: the source no longer holds what it held when the
-/// marks were made; the room has fewer than `BASED_HEADER_BYTES + LONGEST_FRAME` bytes; the frames
-/// from some mark to the next do not fit in the room.
+/// other fault is returned only if the source no longer holds what it held when the marks were made,
+/// or if the frames from some mark to the next do not fit in the room.
 pub fn redo_in_pieces<S: Reread, P: Pages>(
     alloc: Global,
     source: &mut S,
@@ -315,23 +237,13 @@ pub fn redo_in_pieces<S: Reread, P: Pages>(
     pages: &mut P,
     tables: &Tables,
 ) -> Result<u64, PassFault>
-    requires room { BASED_HEADER_BYTES ≤ length room.old }
-    requires reach { length room.old < 2 ^ 63 }
-    ensures redone { IfOk result (λ applied. (text : List ℕ) (whole : LogContent) (torn : ℕ)
-        → S.text source.old ≡ Some text → Reads text whole torn → AreMarks text whole marks.now
-        → ForShown P.Pages pages.old (λ stored images.
-        ShowRepeated P.Pages whole tables.now images stored pages.new applied)) }
+    requires room { IsRoom (length room.old) }
+    ensures redone { IfOk result (RepeatsAll P.Pages (S.text source.old) marks.now tables.now
+        pages.old pages.new) }
     ensures numbered { OnOk result (StayNumbered P.Pages pages.old pages.new) }
-    ensures fault { IfErr result (λ e. (text : List ℕ) (whole : LogContent) (torn : ℕ)
-        → S.text source.old ≡ Some text → Reads text whole torn → AreMarks text whole marks.now
-        → BASED_HEADER_BYTES + LONGEST_FRAME ≤ length room.old
-        → AreInReach (length room.old) marks.now
-        → ForShown P.Pages pages.old (λ stored images.
-        RedoCause whole (length images) tables.now.redo_lsn e)) }
-    ensures same { Keeps (S.text source.old) (S.text source.new) }
-    ensures no_failure { OnOk result (S.failures source.new ≡ S.failures source.old) }
-    ensures cause { IfErr result (λ e. S.failures source.new
-        ≡ S.failures source.old + failures_of_pass e) }
+    ensures fault { IfErr result (RedoStops P.Pages (S.text source.old) marks.now
+        (length room.old) pages.old tables.now) }
+    ensures source { HasRead S.text S.failures source.old source.new result }
 {
     let scan = tally_in_pieces(alloc, source, marks, room, pages, tables)?;
     end_redo(alloc, source, marks, room, pages, scan)

@@ -1,11 +1,10 @@
 //! A piece of a log: the frames after a mark, as a log of their own.
 
-ghost use Rattle.std.specs.Prelude.{◌≡◌, ◌+◌, ◌-◌, ◌≤◌, ◌<◌, ◌^◌, ℕ, List, length, IfOk, IfErr};
+ghost use Rattle.std.specs.Prelude.{◌≡◌, ◌+◌, ◌-◌, ◌≤◌, ◌<◌, ◌^◌, length, IfOk, IfErr};
 ghost use Rattle.page.specs.declared.fault.Fault.{Fault};
-ghost use Rattle.log_laws.specs.Records.{LogContent};
 ghost use Rattle.wal.specs.Reads.{Cause};
 ghost use Rattle.wal.specs.declared.sizes.TheConstants.{BASED_HEADER_BYTES, LARGEST_BASE};
-ghost use Rattle.pieces.specs.Pieces.{IsMark, piece_text, ContinuesLog, moved, OffsetFits};
+ghost use Rattle.pieces.specs.Pieces.{ContinuesEach, ForPiece, moved, OffsetFits};
 
 use crate::mark::Mark;
 use page::Fault;
@@ -40,11 +39,8 @@ fn moved(mark: Mark, fault: Fault) -> Fault
 pub fn piece_log<'a>(alloc: Global, mark: Mark, bytes: &'a [u8]) -> Result<(Log<'a>, usize), Fault>
     requires low { mark.lsn ≤ LARGEST_BASE }
     requires room { mark.offset + length bytes.now < 2 ^ 64 }
-    ensures goes_on { IfOk result (λ x. (text : List ℕ) (before : LogContent) (count : ℕ)
-        → IsMark text before mark → bytes.now ≡ piece_text text mark count
-        → ContinuesLog text before mark (length bytes.now - BASED_HEADER_BYTES) x.0 x.1) }
-    ensures fault { IfErr result (λ e. (text : List ℕ) (before : LogContent) (count : ℕ)
-        → IsMark text before mark → bytes.now ≡ piece_text text mark count → Cause text e) }
+    ensures goes_on { IfOk result (λ x. ContinuesEach bytes.now mark x.0 x.1) }
+    ensures fault { IfErr result (λ e. ForPiece bytes.now mark (λ text _. Cause text e)) }
 {
     match read_log(alloc, bytes) {
         Ok(read) => Ok(read),

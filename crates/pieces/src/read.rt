@@ -1,16 +1,15 @@
 //! The pieces of a log, read from a device.
 
-ghost use Rattle.std.specs.Prelude.{◌≡◌, ◌+◌, ◌-◌, ◌≤◌, ◌<◌, ◌^◌, ℕ, List, [], drop, length, take, IfErr, IfOk, IfSome};
+ghost use Rattle.std.specs.Prelude.{◌≡◌, ◌+◌, ◌≤◌, ◌<◌, ◌^◌, drop, length, take, IfErr, IfOk};
 ghost use Rattle.std.specs.Io.KnownBytes.{Keeps};
 ghost use Rattle.device.specs.Failures.{Counts};
 ghost use Rattle.device.specs.Reread.{EndsBy, ReadsFrom};
 ghost use Rattle.page.specs.declared.fault.Fault.{Fault};
-ghost use Rattle.log_laws.specs.Records.{LogContent};
 ghost use Rattle.wal.specs.Headers.{header_of};
 ghost use Rattle.wal.specs.Reads.{Cause};
 ghost use Rattle.log_laws.specs.declared.start.LogStart.TheVariants.{Version2};
 ghost use Rattle.wal.specs.declared.sizes.TheConstants.{BASED_HEADER_BYTES, LARGEST_BASE};
-ghost use Rattle.pieces.specs.Pieces.{IsMark, piece_text};
+ghost use Rattle.pieces.specs.Pieces.{EndsInRoom, ForBegun, HoldsPiece, IsFirstMark};
 
 use crate::mark::Mark;
 use device::{Failed, Reread, read_full_at};
@@ -25,12 +24,10 @@ use wal::{BASED_HEADER_BYTES, based_header, read_log};
 /// show one.
 pub fn first_mark(alloc: Global, bytes: &[u8]) -> Result<Mark, Fault>
     requires { length bytes.now ≤ BASED_HEADER_BYTES }
-    ensures mark { IfOk result (λ mark. (text : List ℕ) → bytes.now ≡ take BASED_HEADER_BYTES text
-        → (before : LogContent) × (before.records ≡ []) × IsMark text before mark) }
+    ensures mark { IfOk result (λ mark. ForBegun bytes.now (λ text. IsFirstMark text mark)) }
     ensures low { IfOk result (λ mark. mark.lsn ≤ LARGEST_BASE) }
     ensures front { IfOk result (λ mark. mark.offset ≤ BASED_HEADER_BYTES) }
-    ensures fault { IfErr result (λ e. (text : List ℕ) → bytes.now ≡ take BASED_HEADER_BYTES text
-        → Cause text e) }
+    ensures fault { IfErr result (λ e. ForBegun bytes.now (λ text. Cause text e)) }
 {
     let (log, torn) = read_log(alloc, bytes)?;
     Ok(Mark {
@@ -78,10 +75,8 @@ pub fn read_piece<S: Reread>(source: &mut S, mark: Mark, room: &mut [u8]) -> Res
     requires reach { mark.offset + length room.old ≤ 2 ^ 64 }
     ensures header { IfOk result (λ count. BASED_HEADER_BYTES ≤ count) }
     ensures within { IfOk result (λ count. count ≤ length room.new) }
-    ensures piece { IfOk result (λ count. IfSome (S.text source.old) (λ text.
-        take count room.new ≡ piece_text text mark (count - BASED_HEADER_BYTES))) }
-    ensures end { IfOk result (λ count. count < length room.new
-        → EndsBy (S.text source.old) (mark.offset + (count - BASED_HEADER_BYTES))) }
+    ensures piece { IfOk result (λ count. HoldsPiece (S.text source.old) mark count room.new) }
+    ensures end { IfOk result (λ count. EndsInRoom (S.text source.old) mark count room.new) }
     ensures same { Keeps (S.text source.old) (S.text source.new) }
     ensures cause { Counts (S.failures source.old) (S.failures source.new) result }
 {

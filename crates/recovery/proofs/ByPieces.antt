@@ -1,10 +1,8 @@
 -- A log that is read in pieces: what is read again of it, and its errors.
-use Rattle.std.proofs.Common.{ℕ, ◌≡◌, ◌≤◌, ◌<◌, ◌+◌, ◌-◌, ◌^◌, List, ◌++◌, length, take, drop, Option, Some, None, Result, Ok, Err, refl, sym, ap, subst, ◌∙◌, inl, inr, arith, length-take}
-use Rattle.std.proofs.lemmas.List.{drop-take, take-append-le}
+use Rattle.std.proofs.Common.{ℕ, ◌≡◌, ◌≤◌, ◌+◌, ◌-◌, ◌^◌, List, length, take, drop, Option, Some, None, Result, Ok, Err, refl, sym, ap, subst, ◌∙◌, inl, inr, arith, length-take}
+use Rattle.std.proofs.lemmas.List.{drop-take}
 use Rattle.std.specs.Prelude.{IfSome}
 use Rattle.std.specs.Io.KnownBytes.{Keeps}
-use Rattle.std.proofs.KnownBytes.{Keeps-refl}
-use Rattle.device.specs.declared.traits.Sink.{Ghosts as Sink}
 use Rattle.device.specs.Reread.{EndsBy, ReachesTo}
 use Rattle.page.specs.declared.fault.Fault.{Fault}
 use Rattle.page.specs.declared.fault.Fault.TheVariants.{NoResource, ReadLog, ReadStore, WriteLog, WriteStore, BadWorkers, BadParting}
@@ -19,15 +17,12 @@ use Rattle.passes.specs.InPieces.{InPiecesCause}
 use Rattle.restart.specs.declared.options.Options.{Options}
 use Rattle.restart.specs.Options.{AreInRange}
 use Rattle.restart.specs.Restart.{store_with}
-use Rattle.recovery.specs.declared.by_pieces.Continuation.{Continuation}
-use Rattle.recovery.specs.Recovery.{Recovers, RecoveryCause}
+use Rattle.recovery.specs.Recovery.{RecoveryCause}
 use Rattle.recovery.specs.Devices.{FailsOnlyWith, IsFaultOf, SourcesGave, DeviceCause, IsResourceOrDevice}
-use Rattle.recovery.specs.TailFile.{tail_text, sum_of, end_of}
-use Rattle.recovery.specs.InPlace.{IsLeftIn, Prepares, tail_of, LeavesInPlace}
-use Rattle.recovery.specs.ByPieces.{IsOfLog, IsLogRead, OnceLogRead, LogComesFirst, fault_of, ReadingCause, MeasuresLog, continued_log}
+use Rattle.recovery.specs.TailFile.{end_of}
+use Rattle.recovery.specs.ByPieces.{IsLogRead, OnceLogRead, LogComesFirst, fault_of, ReadingCause}
 use Rattle.recovery.proofs.Bytes.{input_cause}
 use Rattle.recovery.proofs.Delivered.{device_cause, is_resource}
-use Rattle.recovery.proofs.InPlace.{same_tail}
 use Rattle.recovery.specs.declared.tail_file.TheConstants.{END_BYTES}
 
 -- WHAT IS KNOWN OF A DEVICE
@@ -83,12 +78,6 @@ pub by_device : (store_left : Option (List ℕ)) (options : Options) (log store 
 by_device store_left options log store e read (inl failed) = subst (DeviceCause (Some log) store_left options) (sym failed) tt
 by_device store_left options log store e read (inr cause) = device_cause (Some log) store_left options log store e read cause
 
--- and nothing is changed after it
-pub untouched : {L S : Type 0} (log : Sink L) (a : L) (store : Sink S) (b : S) (log_left store_left : Option (List ℕ)) (e : Fault) → IsOfLog e → IsLeftIn log a a store b b log_left store_left e
-untouched log a store b log_left store_left WriteLog h = absurd h
-untouched log a store b log_left store_left WriteStore h = absurd h
-untouched log a store b log_left store_left e h = (Keeps-refl (log.taken a), Keeps-refl (store.taken b))
-
 -- THE LOG is read to its end before a fault is returned
 pub comes_first : (log_read store_read : Type 0) (e : Fault) → OnceLogRead log_read e → LogComesFirst log_read store_read e
 comes_first log_read store_read NoResource h = tt
@@ -125,29 +114,3 @@ log_read_most (Some held) m offset many far = inr (omega (arith, many, far))
 -- A STORE with other pages
 pub store_same : (before : StoreContent) (m : ℕ) (after items : List Page) → before.master ≡ m → after ≡ items → store_with before after ≡ record { master = m; pages = items }
 store_same before m after items em ea = rw (em, ea) refl
-
--- WHAT IS MADE, and the file of its tail
-module _ (store_left : Option (List ℕ)) (log store : List ℕ) (made : Continuation) (new_store : List ℕ) (read : SourcesGave (Some log) store_left log store)
-    (measured : MeasuresLog log made) (recovers : Recovers log store (continued_log log made) new_store made.report) where
-  abbrev pub prepares : Prepares (Some log) store_left
-  prepares = record {
-    log = log;
-    store = store;
-    kept = length log - made.report.torn;
-    frames = made.frames.items;
-    new_store = new_store;
-    report = made.report;
-    are_read = read;
-    kept_is = refl;
-    recovers = recovers;
-  }
-
-  pub tail_made : (size kept end cut : ℕ) (frames : List ℕ) → size ≡ made.length → kept ≡ made.kept → end ≡ sum_of (end_of (take made.kept log)) → cut ≡ sum_of (drop made.kept log)
-      → frames ≡ made.frames.items → tail_text size kept end cut frames ≡ tail_of prepares
-  tail_made size kept end cut frames p q r u h =
-      same_tail size (length log) kept (length log - made.report.torn) end _ cut _ frames made.frames.items (p ∙ measured.length_is) (q ∙ measured.kept_is)
-      (r ∙ ap (λ n. sum_of (end_of (take n log))) measured.kept_is) (u ∙ ap (λ n. sum_of (drop n log)) measured.kept_is) h
-
--- another fault is not one of the log's device
-pub other_failed : {U : Type 0} (s : Result U Fault) (a b c : ℕ) → (s ≡ Err ReadLog → ⊥) → b ≡ a → c ≡ b → FailsOnlyWith ReadLog s a c
-other_failed s a b c other before after = record { blamed = λ is. absurd (other is); innocent = λ _. after ∙ before }

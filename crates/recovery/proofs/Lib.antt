@@ -13,5 +13,6 @@ pub mod TailLength
 pub mod Taken
 pub mod TailFiles
 pub mod InPlace
+pub mod NewLogs
 pub mod StoreAgain
 pub mod Rewritten

@@ -1,8 +1,8 @@
 -- The bytes of a log that were read in two parts.
-use Rattle.std.proofs.Common.{◌≡◌, ℕ, ◌+◌, ◌-◌, ◌≤◌, List, [], ◌++◌, length, take, drop, Ok, Err, Option, sym, ap, ap₂, subst, ◌∙◌, arith, inl, inr, length-append, length-drop}
+use Rattle.std.proofs.Common.{◌≡◌, ℕ, ◌+◌, ◌-◌, ◌≤◌, List, ◌++◌, length, take, drop, Ok, Err, Option, sym, ap, ap₂, subst, ◌∙◌, arith, inl, inr, length-append}
 use Rattle.std.specs.Prelude.{min, OnOk, Result}
-use Rattle.std.proofs.lemmas.List.{append-nil, take_at, drop_at, take_all, length-take, take-append-le, drop-append-le, nil_from_length}
-use Rattle.std.proofs.Math.Seq.{take-append-add, drop-append-add}
+use Rattle.std.proofs.lemmas.List.{append-nil, take_at, drop_at, take_all, length-take, take-append-le}
+use Rattle.std.proofs.Math.Seq.{take-append-add}
 use Rattle.std.proofs.lemmas.Bool.Decides.{leb_tells}
 use Rattle.std.specs.Io.KnownBytes.{Consumes, IsAtEnd}
 use Rattle.std.proofs.KnownBytes.{Consumes-trans}

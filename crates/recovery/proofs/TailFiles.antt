@@ -1,8 +1,6 @@
 -- The file of a tail: its sums, and how it is read again.
-use Rattle.std.proofs.Common.{ℕ, ◌≡◌, ◌+◌, ◌-◌, ◌*◌, ◌%◌, ◌^◌, ◌<◌, ◌≤◌, List, [], ◌∷◌, ◌++◌, length, take, drop, get_or, refl, sym, ap, ap₂, subst, ◌∙◌, inl, inr, arith, Option, Some, None, length-append, length-drop}
-use Rattle.std.proofs.Math.Seq.{drop-append-add}
-use Rattle.std.proofs.lemmas.Bool.{cases_lt}
-use Rattle.std.proofs.lemmas.List.{take_more, take_all, drop-append-le, nil_from_length, take_at, drop_at, take-append-drop}
+use Rattle.std.proofs.Common.{ℕ, ◌≡◌, ◌+◌, ◌-◌, ◌*◌, ◌%◌, ◌^◌, ◌<◌, ◌≤◌, List, [], ◌∷◌, ◌++◌, length, take, drop, get_or, refl, sym, ap, ap₂, subst, ◌∙◌, arith, Option, Some, None, length-append}
+use Rattle.std.proofs.lemmas.List.{take_more, take_all, take_at, drop_at, take-append-drop}
 use Rattle.std.specs.Prelude.{bit_xor, Bool, true, false, not}
 use Rattle.std.specs.Str.{bytes_eq}
 use Rattle.std.proofs.lemmas.Slice.Eq.{bytes_eq-Decides}
@@ -13,8 +11,7 @@ use Rattle.std.specs.Io.KnownBytes.{Appends, Keeps}
 use Rattle.device.specs.Transfer.{TookBeginning}
 use Rattle.recovery.proofs.Delivered.{behind_front}
 use Rattle.recovery.proofs.Taken.{begins_longer}
-use Rattle.recovery.specs.TailFile.{sum_on, sum_of, end_of, head_of, front_of, tail_text}
-use Rattle.recovery.specs.declared.tail_file.TheConstants.{END_BYTES}
+use Rattle.recovery.specs.TailFile.{sum_on, sum_of, head_of, front_of, tail_text}
 
 -- THE SUM
 -- is continued with the bytes after

@@ -20,12 +20,11 @@ use Rattle.recovery.specs.declared.by_pieces.Continuation.{Continuation}
 use Rattle.recovery.specs.declared.tail_file.TailFile.{TailFile}
 use Rattle.recovery.specs.TailFile.{sum_of, end_of}
 use Rattle.restart.specs.Options.{AreInRange}
-use Rattle.recovery.specs.Recovery.{AreLawful, Recovers, Recovered, RecoveryCause, Decodes}
+use Rattle.recovery.specs.Recovery.{AreLawful, Recovers, Recovered, RecoveryCause}
 use Rattle.recovery.specs.Devices.{IsFaultOf, DeviceCause}
 use Rattle.recovery.specs.StoreChanges.{DecodesLsns}
 use Rattle.page.specs.declared.profile.TheConstants.{PAGES}
 use Rattle.page.specs.declared.lsns.StoreLsns.{StoreLsns}
-use Rattle.changes.specs.Changes.{PageChange}
 use Rattle.changes.specs.Pages.{ShowsChanges}
 
 -- the fault of a log's device, of its bytes or of a restart by it, or a lack of memory: that of no other device
@@ -94,6 +93,10 @@ pub record MeasuresLog (log : List ℕ) (made : Continuation) : Type 0 where
   pub length_is : made.length ≡ length log
   pub kept_is : made.kept ≡ length log - made.report.torn
 
+-- P is true of the bytes of the old log, of how many of them are kept, and of the frames made, if it is known what the log's device holds
+abbrev pub ForMade : (held : Option (List ℕ)) → Continuation → ((log : List ℕ) (kept : ℕ) (frames : List ℕ) → Type 0) → Type 0
+ForMade held made P = (log : List ℕ) → held ≡ Some log → MeasuresLog log made → P log made.kept made.frames.items
+
 -- THE FILE OF ITS TAIL has these lengths and frames
 pub record IsFileOf (made : Continuation) (file : TailFile) : Type 0 where
   pub length_is : file.length ≡ made.length
@@ -155,6 +158,19 @@ pub record Remakes (log store : List ℕ) (x : Made) : Type 0 where
 
 abbrev pub IsMadeRead : (held : Option (List ℕ)) → Result StoreLsns Fault → Made → Type 0
 IsMadeRead held decoded x = (log store : List ℕ) → held ≡ Some log → DecodesLsns store decoded → Remakes log store x
+
+-- WHAT IS MADE of both devices, if it is known what they hold: with the lengths of the log, and what it restores if the bytes are lawful
+pub record IsMade (log store : List ℕ) (x : Made) : Type 0 where
+  pub remakes : Remakes log store x
+  pub measures : MeasuresLog log x.log
+  pub restores : (base : BasePages) (bytes : AreLawful base log store) → RestoresBy base bytes.decoded.read log bytes.decoded.before x
+
+abbrev pub AreMade : (log_held store_held : Option (List ℕ)) → Made → Type 0
+AreMade log_held store_held x = (log store : List ℕ) → log_held ≡ Some log → store_held ≡ Some store → IsMade log store x
+
+-- P is true if both hold bytes that are lawful over some base pages
+abbrev pub ForLawfulTexts : (log_held store_held : Option (List ℕ)) → Type 0 → Type 0
+ForLawfulTexts log_held store_held P = (base : BasePages) (log store : List ℕ) → log_held ≡ Some log → store_held ≡ Some store → AreLawful base log store → P
 
 -- there are no more changes than a store may have pages
 abbrev pub AreFew : (IsRead : (store : List ℕ) → Type 0) → Made → Type 0

@@ -3,9 +3,7 @@
 use Rattle.std.specs.Prelude.{◌≡◌, ℕ, ◌+◌, ◌≤◌, ◌<◌, List, Option, Some, length, take, drop, Result}
 use Rattle.std.specs.Io.KnownBytes.{Appends, Consumes, IsAtEnd}
 use Rattle.page.specs.declared.fault.Fault.{Fault}
-use Rattle.page.specs.declared.fault.Fault.TheVariants.{WriteLog}
 use Rattle.device.specs.declared.traits.Sink.{Ghosts as Sink}
-use Rattle.device.specs.Failures.{Counts}
 use Rattle.device.specs.Transfer.{TookBeginning, Flushes}
 use Rattle.device.specs.Reread.{EndsBy}
 use Rattle.passes.specs.declared.fault.PassFault.{PassFault}
@@ -16,16 +14,6 @@ use Rattle.recovery.specs.Devices.{FailsOnlyWith}
 -- the device of this fault has failed once if the fault is the result, otherwise not at all
 abbrev pub Blames : {D T : Type 0} → Fault → (failures : D → ℕ) → (old new : D) → Result T Fault → Type 0
 Blames own failures old new answer = FailsOnlyWith own answer (failures old) (failures new)
-
--- the sinks of a log and of its tail, which share a fault: together they have failed once, or not at all
-abbrev pub BlamesSinks : {T L A : Type 0} → (tail : Sink T) → (old new : T) → (log : Sink L) → (old new : L) → Result A Fault → Type 0
-BlamesSinks tail old_tail new_tail log old_log new_log answer =
-    FailsOnlyWith WriteLog answer (tail.failures old_tail + log.failures old_log) (tail.failures new_tail + log.failures new_log)
-
--- the same for a call whose error names no device
-abbrev pub CountsSinks : {T L A E : Type 0} → (tail : Sink T) → (old new : T) → (log : Sink L) → (old new : L) → Result A E → Type 0
-CountsSinks tail old_tail new_tail log old_log new_log answer =
-    Counts (tail.failures old_tail + log.failures old_log) (tail.failures new_tail + log.failures new_log) answer
 
 -- the device has failed this many times more, with what a pass has counted that stopped
 abbrev pub FailsMore : {D : Type 0} → (failures : D → ℕ) → (old new : D) → PassFault → (more : ℕ) → Type 0

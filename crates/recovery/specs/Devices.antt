@@ -181,6 +181,12 @@ IsResourceOrDevice WriteLog = ⊤
 IsResourceOrDevice WriteStore = ⊤
 IsResourceOrDevice e = ⊥
 
+-- a fault of no sink
+abbrev pub IsOfNoSink : Fault → Type 0
+IsOfNoSink WriteLog = ⊥
+IsOfNoSink WriteStore = ⊥
+IsOfNoSink e = ⊤
+
 -- P is true of the value, or the error is not a fault of the input
 abbrev pub UnlessDevice : {T : Type 0} → Result T Fault → (T → Type 0) → Type 0
 UnlessDevice answer P = MatchResult answer P IsResourceOrDevice

@@ -9,4 +9,5 @@ pub mod TailFile
 pub mod InPlace
 pub mod ByPieces
 pub mod Copying
+pub mod NewLogs
 pub mod StoreChanges

@@ -1,19 +1,28 @@
 //! What is made of a log and a store that are read in pieces, before any of it is written: in memory
 //! is what the recovery appends, and what changes in the pages of the store.
 
-ghost use Rattle.std.specs.Prelude.{◌≡◌, length, IfOk, IfErr, OnOk};
+ghost use Rattle.std.specs.Prelude.{◌≡◌, ◌≤◌, length, IfOk, IfErr, OnOk};
 ghost use Rattle.std.specs.Io.KnownBytes.{Keeps};
 ghost use Rattle.page.specs.declared.fault.Fault.TheVariants.{ReadLog};
 ghost use Rattle.page.specs.Lsns.{AreLsnsOf, SpellsLsns};
 ghost use Rattle.changes.specs.Numbered.{StayNumbered};
-ghost use Rattle.recovery.specs.ByPieces.{AreFew, Continues, ContinuesLawful, HasSums, IfMeasured, IfRead, IsCauseOf, IsCauseOn, IsFileOf, IsMadeLawful, IsMadeOf, IsMadeRead, IsOfLog, MeasuresLog, OnceLogRead, IsLogRead};
+ghost use Rattle.page.specs.declared.profile.TheConstants.{PAGES};
+ghost use Rattle.device.specs.Reread.{IsReadThrough};
+ghost use Rattle.restart.specs.declared.options.Options.{Options};
+ghost use Rattle.restart.specs.Options.{AreInRange};
+ghost use Rattle.recovery.specs.ByPieces.{AreFew, AreMade, Continues, ContinuesLawful, ForLawfulTexts, ForTexts, HasSums, IfMeasured, IfRead, IsCauseOf, IsCauseOn, IsFileOf, IsLogRead, IsMadeLawful, IsMadeOf, IsMadeRead, IsOfLog, LogComesFirst, MeasuresLog, OnceLogRead, StoreFails, TextsCause};
+ghost use Rattle.recovery.specs.Devices.{IsOfNoSink, IsResourceOrDevice, OnceRead};
+ghost use Rattle.recovery.specs.declared.store_pieces.TheConstants.{PIECE};
 ghost use Rattle.recovery.specs.declared.log_again.TheConstants.{ROOM};
+ghost use Rattle.recovery.specs.Copying.{IsOfRereading};
 ghost use Rattle.recovery.specs.Calls.{Blames};
 ghost use Rattle.recovery.specs.StoreChanges.{DecodesLsns};
 ghost use Rattle.std.specs.Option.{ForSome};
 
 use crate::Report;
-use crate::log_again::{check_log, fault_after, first_fault, sum_of_cut, sum_of_kept};
+use crate::log_again::{
+    check_log, fault_after, first_fault, read_store_first, sum_of_cut, sum_of_kept,
+};
 use crate::recovery::{frames_of, report_on};
 use crate::tail_file::TailFile;
 use changes::{Changes, Pages};
@@ -45,7 +54,7 @@ impl Continuation {
             (HasSums self.now file)) }
         ensures fault { IfErr result (λ e. IfMeasured (L.text log.old) self.now
             (λ _. e ≡ ReadLog)) }
-        ensures named { IfErr result IsOfLog }
+        ensures named { IfErr result IsOfRereading }
         ensures cause { Blames ReadLog L.failures log.old log.new result }
     {
         let end = sum_of_kept(log, self.kept, room)?;
@@ -157,7 +166,7 @@ fn make_from<L: Reread>(
 
 /// What is made of the log that a device holds and of a store, if the store's bytes encode one.
 /// Otherwise the error is the fault of the log, if it has one, and then that of the store.
-pub fn make<L: Reread>(
+fn make<L: Reread>(
     alloc: Global,
     log: &mut L,
     decoded: Result<StoreLsns, Fault>,
@@ -184,4 +193,41 @@ pub fn make<L: Reread>(
             Err(first_fault(log, fault, room))
         }
     }
+}
+
+/// Reads a store and its log, and returns what is made of them. The store is read first, from its
+/// beginning to its end, then the log, as often as needed. Nothing is written.
+///
+/// A failure of the log's device comes before all other faults: before one of those is returned, the
+/// log is read to its end, and if it fails there, the fault is `ReadLog`. Then come `ReadStore`, if
+/// the store's device failed, the faults of the log, those of the store, and those of a restart.
+pub fn read_and_make<L: Reread, R: Reread>(
+    alloc: Global,
+    log: &mut L,
+    store: &mut R,
+    room: &mut [u8],
+    pieces: &mut [u8],
+) -> Result<Made, Fault>
+    requires room { length room.old ≡ ROOM }
+    requires pieces { length pieces.old ≡ PIECE }
+    ensures answer { IfOk result (AreMade (L.text log.old) (R.text store.old)) }
+    ensures few { IfOk result (λ x. length x.changes ≤ PAGES) }
+    ensures lawful { IfErr result (λ e. ForLawfulTexts (L.text log.old) (R.text store.old)
+        (IsResourceOrDevice e)) }
+    ensures cause { IfErr result (λ e. (options : Options) → AreInRange options
+        → TextsCause (L.text log.old) (R.text store.old) options e) }
+    ensures named { IfErr result IsOfNoSink }
+    ensures log_same { OnOk result (Keeps (L.text log.old) (L.text log.new)) }
+    ensures store_same { OnOk result (Keeps (R.text store.old) (R.text store.new)) }
+    ensures end { OnOk result (IsReadThrough (R.text store.old) (R.read_to store.new)) }
+    ensures read_to_end { IfErr result
+        (OnceRead (IsReadThrough (R.text store.old) (R.read_to store.new))) }
+    ensures log_read { IfErr result (ForTexts (L.text log.old) (R.text store.old) (λ log_held
+        store_held. LogComesFirst (IsLogRead log_held (L.read_to log.new))
+        (IsReadThrough store_held (R.read_to store.new)))) }
+    ensures log_source { Blames ReadLog L.failures log.old log.new result }
+    ensures store_source { StoreFails result (R.failures store.old) (R.failures store.new) }
+{
+    let decoded = read_store_first(alloc, log, store, room, pieces)?;
+    make(alloc, log, decoded.store, room)
 }

@@ -2,9 +2,9 @@
 //! the audit of such bytes.
 //!
 //! Entry points: [`recovery_alone`] from buffer to buffer; [`recover`] over devices, with both logs
-//! and both stores in memory; [`recover_copying`] and, in place, [`recover_in_place`] with a piece
-//! of the log and one of the store in memory. [`hold_store`] reads a store into memory for these
-//! two.
+//! and both stores in memory; [`recover_in_pieces`] with a piece of the log and one of the store in
+//! memory, which copies the log ([`CopiedLog`]) or continues it in place ([`ContinuedLog`]).
+//! [`hold_store`] reads a store into memory for it.
 //!
 //! The promise: on lawful bytes the new log is the old one and its tail, and the new store has
 //! exactly the effects of the committed and in-doubt transactions. A recovery may be killed at any
@@ -22,9 +22,9 @@
 //! - `log_bytes`: the bytes of the old log that are kept.
 //! - `by_pieces`, `log_again`, `store_changes`, `reading`: what is made of a log and a store that
 //!   are read in pieces (`ByPieces`, `StoreChanges`).
-//! - `copying`: `recover_copying`, into a new log and a new store (`Copying`).
-//! - `in_place`, `tail_file`: `recover_in_place`, which continues the log in place, and the file by
-//!   which a later run finishes it (`InPlace`, `TailFile`).
+//! - `in_pieces`, `new_log`: `recover_in_pieces`, and where the new log goes (`NewLogs`): as a copy
+//!   (`copying`, `Copying`), or in place (`in_place`, `tail_file`, `InPlace`, `TailFile`), with the
+//!   file by which a later run finishes it.
 //! - `texts`: the audit of bytes (`Audit`).
 //! - `laws`: one recovery, at most one fault (`OneAnswer`).
 #![tactic(auto)]
@@ -33,11 +33,13 @@ mod by_pieces;
 mod copying;
 mod decoding;
 mod devices;
+mod in_pieces;
 mod in_place;
 mod laws;
 mod log_again;
 mod log_bytes;
 mod log_text;
+mod new_log;
 mod reading;
 mod recovery;
 mod report;
@@ -47,14 +49,17 @@ mod tail_file;
 mod texts;
 mod unthreaded;
 
-pub use copying::recover_copying;
+pub use by_pieces::Continuation;
+pub use copying::CopiedLog;
 pub use devices::{read_source, recover};
-pub use in_place::{continue_log, recover_in_place};
+pub use in_pieces::recover_in_pieces;
+pub use in_place::{ContinuedLog, continue_log};
 pub use laws::{
     no_fault_of_a_recovery, no_fault_of_lawful_texts, no_fault_of_lawful_texts_over,
     one_audit_fault, one_audit_fault_over, one_recovery, one_recovery_fault,
 };
 pub use log_again::hold_store;
+pub use new_log::NewLog;
 pub use recovery::Recovery;
 pub use report::{Report, report_text};
 pub use tail_file::TailFile;

@@ -11,6 +11,7 @@ ghost use Rattle.recovery.specs.TailFile.{IsEndSum, IsSumOn, sum_of};
 ghost use Rattle.recovery.specs.ByPieces.{IsOfLog, OnceLogRead, IsLogRead, fault_of, StoreFails, IsLog, LogCause};
 ghost use Rattle.recovery.specs.declared.log_again.TheConstants.{ROOM};
 ghost use Rattle.recovery.specs.declared.store_pieces.TheConstants.{PIECE};
+ghost use Rattle.recovery.specs.Copying.{IsOfRereading};
 ghost use Rattle.recovery.specs.Calls.{Blames, FailsMore, ForHeld, ForKept, ForPiece, ForPieceHeld, ForRest};
 ghost use Rattle.recovery.specs.StoreChanges.{AreDecodedLsns};
 ghost use Rattle.std.specs.Option.{ForSome};
@@ -200,7 +201,7 @@ fn sum_piece<L: Reread>(log: &mut L, sum: u64, offset: u64, room: &mut [u8]) -> 
         (IsSumOn sum more)) }
     ensures fault { IfErr result (λ e. ForPieceHeld (L.text log.old) offset room.old
         (e ≡ ReadLog)) }
-    ensures named { IfErr result IsOfLog }
+    ensures named { IfErr result IsOfRereading }
     ensures same { Keeps (L.text log.old) (L.text log.new) }
     ensures cause { Blames ReadLog L.failures log.old log.new result }
 {
@@ -218,7 +219,7 @@ pub fn sum_of_kept<L: Reread>(log: &mut L, kept: u64, room: &mut [u8]) -> Result
     requires { length room.old ≡ ROOM }
     ensures sum { IfOk result (λ sum. ForKept (L.text log.old) kept (IsEndSum sum)) }
     ensures fault { IfErr result (λ e. ForHeld (L.text log.old) kept (e ≡ ReadLog)) }
-    ensures named { IfErr result IsOfLog }
+    ensures named { IfErr result IsOfRereading }
     ensures same { Keeps (L.text log.old) (L.text log.new) }
     ensures cause { Blames ReadLog L.failures log.old log.new result }
 {
@@ -240,7 +241,7 @@ pub fn sum_of_cut<L: Reread>(
     ensures sum { IfOk result (λ sum. ForRest (L.text log.old) kept end
         (λ cut. sum ≡ sum_of cut)) }
     ensures fault { IfErr result (λ e. ForHeld (L.text log.old) end (e ≡ ReadLog)) }
-    ensures named { IfErr result IsOfLog }
+    ensures named { IfErr result IsOfRereading }
     ensures cause { Blames ReadLog L.failures log.old log.new result }
 {
     let mut sum = SUM_OF_NONE;

@@ -3,7 +3,7 @@
 mod calls;
 mod in_place;
 
-use aries::{Options, hold_store, recover, recover_copying};
+use aries::{CopiedLog, Options, hold_store, recover, recover_in_pieces};
 use checks::{check, check_all};
 use device::{Pace, SlowSink, SlowSource};
 use page::{Fault, Page};
@@ -145,19 +145,22 @@ fn recovered<R: Threads + Sync>(
     way: Way,
     worked: &Worked,
     paces: &Paces,
-    out_log: &mut SlowSink,
+    new_log: &mut CopiedLog<SlowSink>,
     out_store: &mut SlowSink,
 ) -> Result<(), Fault> {
     let log = &mut SlowSource::new(&worked.row.given.bytes, paces.log_source);
     let store = &mut SlowSource::new(&worked.before, paces.store_source);
     let answer = match way {
-        Way::Memory => recover(
-            rt, alloc, log, store, out_log, out_store, &OPTIONS, &OpenGate,
-        ),
-        Way::Copying => recover_copying(alloc, log, store, out_log, out_store, &OPTIONS),
-        Way::CopyingHeld => hold_store(alloc, log, store).and_then(|mut held| recover_copying(
-            alloc, log, &mut held, out_log, out_store, &OPTIONS,
-        )),
+        Way::Memory => {
+            let out_log = &mut new_log.sink;
+            recover(
+                rt, alloc, log, store, out_log, out_store, &OPTIONS, &OpenGate,
+            )
+        }
+        Way::Copying => recover_in_pieces(alloc, log, store, new_log, out_store, &OPTIONS),
+        Way::CopyingHeld => hold_store(alloc, log, store).and_then(|mut held| {
+            recover_in_pieces(alloc, log, &mut held, new_log, out_store, &OPTIONS)
+        }),
     };
     answer.map(|_| ())
 }
@@ -190,11 +193,13 @@ fn seen<R: Threads + Sync>(
     worked: &Worked,
     paces: &Paces,
 ) -> Result<Seen, Fail> {
-    let mut log = SlowSink::new(alloc, worked.row.made.bytes.len(), paces.log_sink)?;
+    let sink = SlowSink::new(alloc, worked.row.made.bytes.len(), paces.log_sink)?;
+    let mut new_log = CopiedLog { sink };
     let mut store = SlowSink::new(alloc, worked.after.len(), paces.store_sink)?;
-    let answer = recovered(rt, alloc, way, worked, paces, &mut log, &mut store);
+    let answer = recovered(rt, alloc, way, worked, paces, &mut new_log, &mut store);
+    let log = &new_log.sink;
     let seen = (answer, log.bytes().len(), store.bytes().len());
-    check_order(worked, answer.is_ok(), &log, &store)?;
+    check_order(worked, answer.is_ok(), log, &store)?;
     Ok(seen)
 }
 

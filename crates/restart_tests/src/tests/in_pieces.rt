@@ -13,8 +13,8 @@ use std::alloc::Global;
 use std::test::Fail;
 use tables::Tables;
 use undo::{Gathered, Gathering};
-use wal::{LARGEST_BASE, Log, based_header, read_log};
-use worked_rows::written::{page_with, two_losers};
+use wal::{BASED_HEADER_BYTES, LARGEST_BASE, LONGEST_FRAME, Log, based_header, read_log};
+use worked_rows::written::{Row, Text, page_with, two_losers};
 
 /// How many bytes a piece takes at most, with its header. It has room for each frame of these logs,
 /// of which the longest has 62 bytes.
@@ -139,6 +139,54 @@ fn tells_faults_by_their_places_in_the_log(rt: HostRuntime) -> Result<(), Fail> 
     check(kind_11 == Some(Fault::BadRecord(74)), "a kind that is none")
 }
 
+/// How many bytes the frames take of the records in `far_losers`: the first update, each end of a
+/// transaction, and the last two updates.
+const FIRST: u64 = 33;
+
+const END: u64 = 25;
+
+const SECOND: u64 = 33;
+
+const THIRD: u64 = 34;
+
+/// How many ends of transactions there are. With the first update they take more bytes than the
+/// longest frame.
+const ENDS: u64 = LONGEST_FRAME as u64 / END;
+
+/// How many of them are in the first piece.
+const ENDS_AT_FIRST: u64 = (LONGEST_FRAME as u64 - FIRST) / END;
+
+/// The mark after the first piece.
+const MIDDLE: Mark = Mark {
+    lsn: 1 + ENDS_AT_FIRST,
+    offset: 8 + FIRST + END * ENDS_AT_FIRST,
+};
+
+/// The place before the last record.
+const LAST: Mark = Mark {
+    lsn: 2 + ENDS,
+    offset: 8 + FIRST + END * ENDS + SECOND,
+};
+
+/// The losers of `two-losers`, in a log that a room does not hold at once in which each frame fits:
+/// ends of transactions come after the first update.
+fn far_losers(alloc: Global) -> Result<Row, Fault> {
+    let mut given = Text::new(alloc)?;
+    given.first_update(0)?;
+    for _ in 0..ENDS {
+        given.end(3, 0)?;
+    }
+    given.update(2, 0, 1, None, Some(b'b'))?;
+    given.update(1, 1, 0, Some(b'a'), Some(b'c'))?;
+    let mut made = given.copied()?;
+    made.clr(1, ENDS + 3, 1, 0, Some(b'a'))?;
+    made.clr(2, ENDS + 2, 0, 1, None)?;
+    made.end(2, ENDS + 5)?;
+    made.clr(1, ENDS + 4, 0, 0, None)?;
+    made.end(1, ENDS + 7)?;
+    Ok(Row { given, made })
+}
+
 /// What undo looks at in a source that holds these bytes, read between the marks of a whole log.
 fn gathered_by_marks(
     alloc: Global,
@@ -146,7 +194,9 @@ fn gathered_by_marks(
     bytes: &[u8],
     tables: &Tables,
 ) -> Result<Gathered, PassFault> {
-    let mut room = [0; ROOM];
+    let Ok(mut room) = vec![in alloc; 0; BASED_HEADER_BYTES + LONGEST_FRAME] else {
+        return Err(PassFault::Fault(Fault::NoResource));
+    };
     let (marks, _) = find_marks(alloc, &mut MemorySource::new(whole), &mut room)?;
     gather_for_undo(
         alloc,
@@ -158,12 +208,11 @@ fn gathered_by_marks(
 }
 
 /// The marks that are found in some bytes, and how many of the bytes are torn.
-fn found_in(
-    alloc: Global,
-    bytes: &[u8],
-    room: &mut [u8; ROOM],
-) -> Result<(Vec<Mark>, usize), PassFault> {
-    let (marks, torn) = find_marks(alloc, &mut MemorySource::new(bytes), &mut room[..])?;
+fn found_in(alloc: Global, bytes: &[u8]) -> Result<(Vec<Mark>, usize), PassFault> {
+    let Ok(mut room) = vec![in alloc; 0; BASED_HEADER_BYTES + LONGEST_FRAME] else {
+        return Err(PassFault::Fault(Fault::NoResource));
+    };
+    let (marks, torn) = find_marks(alloc, &mut MemorySource::new(bytes), &mut room)?;
     let mut list = Vec::new(alloc);
     for place in 0..marks.len() {
         list.push(marks.at(place))
@@ -175,39 +224,41 @@ fn found_in(
 #[test]
 fn finds_marks_and_what_is_torn(rt: HostRuntime) -> Result<(), Fail> {
     let alloc = rt.alloc();
-    let bytes = two_losers(alloc)?.given.bytes;
-    let places = [(0, 8), (1, 41), (2, 74), (3, 108)].map(|(lsn, offset)| Mark { lsn, offset });
-    let mut room = [0; ROOM];
-    let Ok((marks, torn)) = found_in(alloc, &bytes, &mut room) else {
+    let bytes = far_losers(alloc)?.given.bytes;
+    let first = Mark { lsn: 0, offset: 8 };
+    let end = Mark {
+        lsn: LAST.lsn + 1,
+        offset: LAST.offset + THIRD,
+    };
+    let Ok((marks, torn)) = found_in(alloc, &bytes) else {
         return Err(Fail::new("no marks"));
     };
-    check(
-        marks.as_slice() == places.as_slice() && torn == 0,
-        "two-losers",
-    )?;
-    let cut = &bytes[..bytes.len().min(100)];
-    let Ok((marks, torn)) = found_in(alloc, cut, &mut room) else {
+    let found = marks.as_slice() == [first, MIDDLE, end].as_slice();
+    check(found && torn == 0, "far losers")?;
+    let cut = &bytes[..bytes.len().min(LAST.offset as usize + 26)];
+    let Ok((marks, torn)) = found_in(alloc, cut) else {
         return Err(Fail::new("no marks of a log that is cut"));
     };
-    check(marks.as_slice() == &places[..3] && torn == 26, "cut at 100")
+    let found = marks.as_slice() == [first, MIDDLE, LAST].as_slice();
+    check(found && torn == 26, "cut in the last record")
 }
 
 #[test]
 fn gathers_between_marks(rt: HostRuntime) -> Result<(), Fail> {
     let alloc = rt.alloc();
-    let row = two_losers(alloc)?;
+    let row = far_losers(alloc)?;
     let (log, _) = read_log(alloc, &row.given.bytes)?;
     let tables = analyse(alloc, &log, 0)?;
     let whole = &row.given.bytes;
     let Ok(gathered) = gathered_by_marks(alloc, whole, whole, &tables) else {
         return Err(Fail::new("not gathered"));
     };
-    let page = page_with(3, Some(b'c'), Some(b'b'));
+    let page = page_with(ENDS + 3, Some(b'c'), Some(b'b'));
     let rollback = undone(alloc, &gathered, &tables, page)?;
     let made = with_appended(&row.given, &rollback.appended)?;
-    check(made.as_slice() == row.made.bytes.as_slice(), "two-losers")?;
-    let cut = &whole[..whole.len().min(74)];
+    check(made.as_slice() == row.made.bytes.as_slice(), "far losers")?;
+    let cut = &whole[..whole.len().min(LAST.offset as usize)];
     let fault = gathered_by_marks(alloc, whole, cut, &tables).err();
-    let at_74 = PassFault::Fault(Fault::BadLsn(74));
-    check(fault == Some(at_74), "a source that was cut")
+    let in_the_last_piece = PassFault::Fault(Fault::BadLsn(MIDDLE.offset));
+    check(fault == Some(in_the_last_piece), "a source that was cut")
 }

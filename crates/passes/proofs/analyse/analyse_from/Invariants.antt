@@ -1,22 +1,18 @@
-use Rattle.std.proofs.Common.{◌≡◌, ◌-◌, ◌≤◌, ℕ, List, length, Some, None}
-use Rattle.std.specs.Io.KnownBytes.{Keeps}
-use Rattle.log_laws.specs.Records.{LogContent, History, history}
-use Rattle.wal.specs.declared.sizes.TheConstants.{LARGEST_BASE}
-use Rattle.analysis.specs.Passing.{HasAnalysed}
-use Rattle.analysis.specs.Tables.{entry_at}
-use Rattle.pieces.specs.Pieces.{IsMark}
+use Rattle.std.proofs.Common.{◌≡◌, ◌-◌, length}
+use Rattle.passes.specs.Marks.{IsLow}
+use Rattle.passes.specs.Next.{GoesOn}
+use Rattle.passes.specs.Tables.{HasNone0, NotesOn}
+use Rattle.passes.proofs.Calls.{HasReadOn}
 use Rattle.passes.proofs.analyse.analyse_from.Given as goal
 
 abbrev pub invariant-loop-mark : goal.invariant-loop-mark
 invariant-loop-mark g l =
     record {
       room : length l.room ≡ length l.fn.room;
-      low : l.mark.offset ≤ LARGEST_BASE;
-      same : Keeps (g.S.Reread.text l.fn.source) (g.S.Reread.text l.source);
-      failures : g.S.Source.failures l.source ≡ g.S.Source.failures l.fn.source;
-      analysed : (text : List ℕ) (before : LogContent) → g.S.Reread.text l.fn.source ≡ Some text → IsMark text before l.fn.from
-          → (now : LogContent) × IsMark text now l.mark × ((whole : History) → HasAnalysed l.master whole (history before) l.fn.scan → HasAnalysed l.master whole (history now) l.scan);
-      no_transaction_0 : entry_at 0 l.fn.scan.entries ≡ None → entry_at 0 l.scan.entries ≡ None;
+      low : IsLow l.mark;
+      source : HasReadOn g.S.Reread.text g.S.Source.failures l.fn.source l.source;
+      seen : GoesOn (g.S.Reread.text l.fn.source) l.fn.from (NotesOn l.master l.fn.scan l.scan) l.mark;
+      no_transaction_0 : HasNone0 l.fn.scan → HasNone0 l.scan;
     }
 
 abbrev pub decreases-loop-mark : goal.decreases-loop-mark

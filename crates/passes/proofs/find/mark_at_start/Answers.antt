@@ -17,12 +17,12 @@ returns-in_err-mark-clause-fault g c =
     let exit = err_from_is_err_and c.from_residual-in_err-mark.result c.from_residual-in_err-mark.ensures.1 in
     rw (exit.1, exit.2)
     (λ text is.
-    let size : length c.read_full_at.new.buffer ≡ BASED_HEADER_BYTES = omega (arith, c.read_full_at.auto.buffer, length-take BASED_HEADER_BYTES c.args.room.now, c.requires.room) in
+    let size : length c.read_full_at.new.buffer ≡ BASED_HEADER_BYTES = omega (arith, c.read_full_at.auto.buffer, length-take BASED_HEADER_BYTES c.args.room.now, c.requires.room.takes) in
     c.in_err-mark.ensures.fault text
     (front (g.S.Reread.text c.args.source.now) text c.read_full_at.new.buffer (drop BASED_HEADER_BYTES c.args.room.now) c.in_ok-count.count is c.in_ok-count.ensures.bytes (λ less. c.in_ok-count.ensures.end (omega (arith, less, size))) c.in_ok-count.ensures.within (omega (arith, size))))
 
 pub returns-clause-mark : goal.returns-clause-mark
 returns-clause-mark g c = λ text is.
-    let size : length c.read_full_at.new.buffer ≡ BASED_HEADER_BYTES = omega (arith, c.read_full_at.auto.buffer, length-take BASED_HEADER_BYTES c.args.room.now, c.requires.room) in
+    let size : length c.read_full_at.new.buffer ≡ BASED_HEADER_BYTES = omega (arith, c.read_full_at.auto.buffer, length-take BASED_HEADER_BYTES c.args.room.now, c.requires.room.takes) in
     c.in_ok-mark.ensures.mark text
     (front (g.S.Reread.text c.args.source.now) text c.read_full_at.new.buffer (drop BASED_HEADER_BYTES c.args.room.now) c.in_ok-count.count is c.in_ok-count.ensures.bytes (λ less. c.in_ok-count.ensures.end (omega (arith, less, size))) c.in_ok-count.ensures.within (omega (arith, size)))

@@ -19,7 +19,7 @@ returns-clause-analysed g c = λ whole log before.
     before
 
 pub returns-clause-tallied : goal.returns-clause-tallied
-returns-clause-tallied g c = λ stored shown shows numbered whole at.
+returns-clause-tallied g c = λ stored shown numbered shows whole at.
     let scan = c.in_ok-tallies.ensures in
     let count = g.met.P.Pages.counted c.args.pages.now stored shown shows in
     tallied_all_first whole shown c.args.base c.in_ok-tallies.tallies numbered scan.redo_lsn scan.upto at

@@ -2,7 +2,7 @@ use Rattle.std.proofs.Common.{◌≡◌, refl, sym, subst, ◌∙◌, arith}
 use Rattle.log_laws.specs.Records.{history, last_lsn, base_lsn}
 use Rattle.log_laws.proofs.Histories.{base_within}
 use Rattle.analysis.proofs.Noted.{noted_none, noted_more, noted_all}
-use Rattle.passes.specs.Listing.{TalliedOrRefused}
+use Rattle.passes.specs.Listing.{IsTalliedTo}
 use Rattle.passes.proofs.fresh.scan_piece.Goals as goal
 
 pub loop-lsn-init : goal.loop-lsn-init
@@ -10,7 +10,7 @@ loop-lsn-init c =
     let at : c.base-lsn.result ≡ base_lsn (history c.args.piece.now) = c.base-lsn.ensures.is in
     record {
       noted = noted_none 0 c.args.piece.now c.base-lsn.result c.args.scan.now.tables (omega (arith, at));
-      tallied = λ whole images own before. subst (λ n. TalliedOrRefused whole images n c.args.scan.now.fault c.args.scan.now.tallies) (sym at) before;
+      tallied = λ whole images own before. subst (λ n. IsTalliedTo whole images n c.args.scan.now) (sym at) before;
       upto = omega (arith, c.requires, at);
       count = refl;
     }
@@ -36,7 +36,7 @@ pub returns-clause-tallied : goal.returns-clause-tallied
 returns-clause-tallied c = λ whole images own before.
     let within = base_within (history c.args.piece.now) in
     let end : c.loop-lsn.lsn ≡ last_lsn (history c.args.piece.now) = omega (arith, c.loop-lsn-test.false, c.loop-lsn.auto.lsn-end, c.last-lsn-end.ensures, c.base-lsn.ensures.is, within) in
-    subst (λ n. TalliedOrRefused whole images n c.loop-lsn.scan.fault c.loop-lsn.scan.tallies) end (c.loop-lsn.invariant.tallied whole images own before)
+    subst (λ n. IsTalliedTo whole images n c.loop-lsn.scan) end (c.loop-lsn.invariant.tallied whole images own before)
 
 pub returns-clause-upto : goal.returns-clause-upto
 returns-clause-upto c =

@@ -1,9 +1,9 @@
-use Rattle.std.proofs.Common.{◌<◌, ◌+◌, ◌∙◌, get_or, length, refl, ap, inl, inr, arith}
+use Rattle.std.proofs.Common.{◌<◌, ◌+◌, get_or, length, refl, sym, ap, inl, inr, arith}
 use Rattle.std.proofs.lemmas.Result.{err_from_is_err_and}
 use Rattle.log_laws.specs.Records.{history}
 use Rattle.tables.specs.Tables.{losers_in}
 use Rattle.pieces.specs.declared.mark.Mark.{Mark}
-use Rattle.passes.proofs.Reached.{marked, keeps_same, still_told, keeps_on}
+use Rattle.passes.proofs.Calls.{still, read_none, reads_on}
 use Rattle.passes.proofs.Redoing.{reaches_next}
 use Rattle.passes.proofs.gather.gather_for_undo.Goals as goal
 
@@ -12,8 +12,7 @@ loop-upto-init g c =
     let first = c.first-base.result in
     record {
       room = refl;
-      same = keeps_same (g.S.Reread.text c.args.source.now);
-      failures = refl;
+      source = read_none;
       up_to = c.upto-upto.ensures.up_to;
       within = λ text whole are.
           omega (
@@ -24,7 +23,7 @@ loop-upto-init g c =
             are.last first,
           );
       gathering = λ text whole torn is reads are.
-          c.in_ok-gathering.ensures.begun (history whole) (omega (arith, are.first first, ap (λ (m : Mark). m.lsn) (c.first-base.ensures.first first)))
+          c.in_ok-gathering.ensures.begun (history whole) (sym (c.first-base.ensures.base text whole are))
           (omega (arith, are.last first, ap (λ (m : Mark). m.lsn) (c.first-base.ensures.first first), c.count-count.ensures.count first));
     }
 
@@ -34,8 +33,8 @@ returns-in_err-gather_piece-clause-fault g c =
     let inv = c.loop-upto.invariant in
     rw (exit.1, exit.2)
     (λ text whole torn is reads are reach.
-    let own = marked text whole c.args.marks.now c.place_before.result c.at-mark.result c.at-mark.ensures.at c.place_before.ensures.within are in
-    c.in_err-gather_piece.ensures.fault text whole own.0 torn (still_told (g.S.Reread.text c.args.source.now) (g.S.Reread.text c.loop-upto.source) text inv.same is) reads own.1
+    let own = c.at-mark.ensures.is_mark text whole are in
+    c.in_err-gather_piece.ensures.fault text whole own.0 torn (still inv.source is) reads own.1
     (reaches_next text whole c.args.marks.now (length c.args.room.now) (length c.loop-upto.room) c.place_before.result c.at-mark.result c.loop-upto.upto inv.room c.requires.room are reach c.at-mark.ensures.at
     c.place_before.ensures.within c.place_before.ensures.next (inv.within text whole are)))
 
@@ -62,19 +61,17 @@ loop-upto-preserved g c =
     let inv = c.loop-upto.invariant in
     record {
       room = omega (arith, c.gather_piece.auto.room, inv.room);
-      same = keeps_on (g.S.Reread.text c.args.source.now) (g.S.Reread.text c.loop-upto.source) (g.S.Reread.text c.gather_piece.new.source) inv.same c.in_ok-gather_piece.ensures.same;
-      failures = c.in_ok-gather_piece.ensures.no_failure ∙ inv.failures;
+      source = reads_on inv.source c.in_ok-gather_piece.ensures.source;
       up_to = c.upto-upto-in-loop-upto.ensures.up_to;
       within = λ text whole are. omega (arith, loop-upto-smaller g c, inv.within text whole are);
       gathering = λ text whole torn is reads are.
-          let own = marked text whole c.args.marks.now c.place_before.result c.at-mark.result c.at-mark.ensures.at c.place_before.ensures.within are in
-          c.in_ok-gather_piece.ensures.gathered text whole own.0 torn (losers_in c.args.tables.now) (still_told (g.S.Reread.text c.args.source.now) (g.S.Reread.text c.loop-upto.source) text inv.same is) reads own.1 inv.up_to
+          let own = c.at-mark.ensures.is_mark text whole are in
+          c.in_ok-gather_piece.ensures.gathered text whole own.0 torn (still inv.source is) reads own.1 (losers_in c.args.tables.now) inv.up_to
           (inv.gathering text whole torn is reads are);
     }
 
 pub returns-clause-gathered : goal.returns-clause-gathered
 returns-clause-gathered g c = λ text whole torn is reads are.
     let inv = c.loop-upto.invariant in
-    let first = c.first-base.result in
     c.finish.ensures (history whole) (losers_in c.args.tables.now) (inv.gathering text whole torn is reads are)
-    (λ k d lt. omega (arith, inv.up_to k d lt, c.loop-upto-test.false, are.first first, ap (λ (m : Mark). m.lsn) (c.first-base.ensures.first first)))
+    (λ k d lt. omega (arith, inv.up_to k d lt, c.loop-upto-test.false, c.first-base.ensures.base text whole are))

@@ -1,22 +1,21 @@
-use Rattle.std.proofs.Common.{◌≡◌, ◌≤◌, ℕ, List, length, Some}
-use Rattle.std.specs.Io.KnownBytes.{Keeps}
+use Rattle.std.proofs.Common.{◌≡◌, ◌≤◌, ℕ, List, length}
 use Rattle.log_laws.specs.Records.{LogContent, history, last_lsn}
-use Rattle.wal.specs.Reads.{Reads}
 use Rattle.tables.specs.Tables.{losers_in}
 use Rattle.undo.specs.Wants.{WantUpTo, wants_in}
 use Rattle.undo.specs.Gathering.{IsGathering}
+use Rattle.passes.specs.Calls.{ForMarked}
 use Rattle.passes.specs.Marks.{AreMarks}
+use Rattle.passes.proofs.Calls.{HasReadOn}
 use Rattle.passes.proofs.gather.gather_for_undo.Given as goal
 
 abbrev pub invariant-loop-upto : goal.invariant-loop-upto
 invariant-loop-upto g l =
     record {
       room : length l.room ≡ length l.initial.room;
-      same : Keeps (g.S.Reread.text l.initial.source) (g.S.Reread.text l.source);
-      failures : g.S.Source.failures l.source ≡ g.S.Source.failures l.initial.source;
+      source : HasReadOn g.S.Reread.text g.S.Source.failures l.initial.source l.source;
       up_to : WantUpTo l.upto (wants_in l.gathering.wants);
       within : (text : List ℕ) (whole : LogContent) → AreMarks text whole l.marks → l.upto ≤ last_lsn (history whole);
-      gathering : (text : List ℕ) (whole : LogContent) (torn : ℕ) → g.S.Reread.text l.initial.source ≡ Some text → Reads text whole torn → AreMarks text whole l.marks → IsGathering (history whole) (losers_in l.tables) l.gathering;
+      gathering : ForMarked (g.S.Reread.text l.initial.source) l.marks (λ whole. IsGathering (history whole) (losers_in l.tables) l.gathering);
     }
 
 abbrev pub decreases-loop-upto : goal.decreases-loop-upto

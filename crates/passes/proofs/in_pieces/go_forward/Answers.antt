@@ -1,17 +1,12 @@
-use Rattle.std.proofs.Common.{◌∙◌}
-use Rattle.std.proofs.lemmas.Result.{IfOk-weaker, IfErr-weaker}
+use Rattle.std.proofs.Common.{sym, subst}
+use Rattle.std.specs.Prelude.{IfOk, IfErr}
+use Rattle.passes.specs.InPieces.{GoesForward, StopsForward}
 use Rattle.passes.proofs.in_pieces.go_forward.Goals as goal
 
-pub returns-then-master-eq0-clause-redone : goal.returns-then-master-eq0-clause-redone
-returns-then-master-eq0-clause-redone g c =
-    IfOk-weaker c.go_at_once.result _ _ (λ x redone text whole torn is reads before stored master numbered shows. redone text whole torn is reads before stored (master ∙ c.if-master-eq0.true) numbered shows)
-    c.go_at_once.ensures.redone
+pub returns-then-master-eq0-clause-answer : goal.returns-then-master-eq0-clause-answer
+returns-then-master-eq0-clause-answer g c =
+    subst (λ m. IfOk c.go_at_once.result (GoesForward g.P.Pages (g.S.Reread.text c.args.source.now) m c.args.pages.now c.go_at_once.new.pages)) (sym c.if-master-eq0.true) c.go_at_once.ensures.answer
 
-pub returns-then-master-eq0-clause-truth : goal.returns-then-master-eq0-clause-truth
-returns-then-master-eq0-clause-truth g c =
-    IfOk-weaker c.go_at_once.result _ _ (λ x truth text whole torn base before is reads lawful master. truth text whole torn base before is reads lawful (master ∙ c.if-master-eq0.true)) c.go_at_once.ensures.truth
-
-pub returns-then-master-eq0-clause-lawful : goal.returns-then-master-eq0-clause-lawful
-returns-then-master-eq0-clause-lawful g c =
-    IfErr-weaker c.go_at_once.result _ _ (λ e only text whole torn base is reads before stored master numbered shows lawful. only text whole torn base is reads before stored (master ∙ c.if-master-eq0.true) numbered shows lawful)
-    c.go_at_once.ensures.lawful
+pub returns-then-master-eq0-clause-fault : goal.returns-then-master-eq0-clause-fault
+returns-then-master-eq0-clause-fault g c =
+    subst (λ m. IfErr c.go_at_once.result (StopsForward g.P.Pages (g.S.Reread.text c.args.source.now) m c.args.pages.now)) (sym c.if-master-eq0.true) c.go_at_once.ensures.fault

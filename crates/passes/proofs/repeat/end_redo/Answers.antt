@@ -1,7 +1,6 @@
-use Rattle.std.proofs.Common.{◌≡◌, length, map, sum, refl, ap, arith}
+use Rattle.std.proofs.Common.{◌≡◌, length, map, sum, refl, arith}
 use Rattle.std.specs.List.{sum_by}
 use Rattle.log_laws.specs.Records.{history, last_lsn}
-use Rattle.pieces.specs.declared.mark.Mark.{Mark}
 use Rattle.redo.specs.declared.tally.Tally.{Tally}
 use Rattle.redo.specs.Inputs.{InputContent, input_over}
 use Rattle.redo.specs.Parts.{AreAllTallied}
@@ -13,7 +12,7 @@ use Rattle.passes.proofs.Redoing.{exist_all}
 use Rattle.passes.proofs.repeat.end_redo.Goals as goal
 
 pub returns-clause-redone : goal.returns-clause-redone
-returns-clause-redone g c = λ text whole torn tables images stored is reads marks tallied shows.
+returns-clause-redone g c = λ text whole torn is reads marks tables images stored tallied shows.
     let input : InputContent = input_over whole images tables in
     let tallies = c.args.scan.tallies in
     let all : AreAllTallied input tallies = all_tallied_alone input tallied.numbered (last_lsn (history whole)) tallies tallied.tallied (omega arith) in
@@ -28,8 +27,7 @@ returns-clause-redone g c = λ text whole torn tables images stored is reads mar
           c.applied-applied.ensures,
           told,
           applied_once tables.dirty tables.redo_lsn (history whole) images tallied.numbered,
-          marks.last c.end-end.result,
-          ap (λ (m : Mark). m.lsn) (c.end-end.ensures.end c.end-end.result),
+          c.end-end.ensures.last text whole marks,
           c.end-end.ensures.low.lsn,
         );
         exist = exist_all whole (length images) tables.redo_lsn tallied.exist;

@@ -21,12 +21,13 @@ returns-clause-each g c = λ text whole torn is reads marks stored images number
     let same : lent ≡ c.in_ok-wanted.wanted.items = c.deref.ensures.value in
     let are : All (IsWanted tallies) lent =
     subst (λ ws. All (IsWanted tallies) ws) (sym same) (λ k d less. (found.each _).0 (Contains-get_or c.in_ok-wanted.wanted.items k d less)) in
-    let begun : ShowAllBut g.P.Pages (history whole) tallies lent images stored c.args.pages.now =
-    (images, shows, subst (λ ws. HoldAllBut (history whole) tallies ws images images) (sym same) (found.begun (history whole) images)) in
+    let begun : ShowAllBut g.P.Pages (history whole) tallies lent images stored c.reserve.new.self =
+    (images, c.reserve.ensures.same stored images shows, subst (λ ws. HoldAllBut (history whole) tallies ws images images) (sym same) (found.begun (history whole) images)) in
     c.finish.ensures.each (history whole) (drop c.in_ok-fetch_in_pieces.field-0 lent) images stored numbered
-    (fetched.fetched text whole torn tallies images stored is reads marks are begun)
+    (fetched.fetched text whole torn is reads marks tallies images stored are begun)
     (λ k d less. omega (arith, fetched.rest k d less, c.upto.ensures))
 
 pub returns-clause-numbered : goal.returns-clause-numbered
 returns-clause-numbered g c =
-    stay_more g.P.Pages c.args.pages.now c.fetch_in_pieces.new.pages c.finish.new.pages c.in_ok-fetch_in_pieces.ensures.numbered c.finish.ensures.numbered
+    stay_more g.P.Pages c.args.pages.now c.fetch_in_pieces.new.pages c.finish.new.pages
+    (λ stored given shows are. c.in_ok-fetch_in_pieces.ensures.numbered stored given (c.reserve.ensures.same stored given shows) are) c.finish.ensures.numbered

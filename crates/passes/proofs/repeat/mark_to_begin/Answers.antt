@@ -1,23 +1,14 @@
 use Rattle.std.proofs.Common.{◌∙◌, get_or, ap, inl, inr, arith}
 use Rattle.log_laws.specs.Records.{history, base_lsn, last_lsn}
 use Rattle.pieces.specs.declared.mark.Mark.{Mark}
-use Rattle.passes.proofs.Reached.{marked, marked_last}
-use Rattle.passes.proofs.Redoing.{some_marks, mark_within, before_redo}
+use Rattle.passes.proofs.Redoing.{mark_within, before_redo}
 use Rattle.passes.proofs.repeat.mark_to_begin.Goals as goal
-
-pub returns-then-redo_lsn-eq0-clause-is_mark : goal.returns-then-redo_lsn-eq0-clause-is_mark
-returns-then-redo_lsn-eq0-clause-is_mark c = λ text whole marks.
-    marked_last text c.args.marks.now c.end.result (some_marks text whole c.args.marks.now marks) c.end.ensures.end marks.each
-
-pub returns-clause-is_mark : goal.returns-clause-is_mark
-returns-clause-is_mark c = λ text whole marks.
-    marked text whole c.args.marks.now c.place_before.result c.at.result c.at.ensures.at c.place_before.ensures.within marks
 
 pub returns-clause-before : goal.returns-clause-before
 returns-clause-before c = λ text whole torn reads marks.
     let mark = c.at.result in
     let is = ap (λ (m : Mark). m.lsn) (c.at.ensures.at mark) in
-    let own = returns-clause-is_mark c text whole marks in
+    let own = c.at.ensures.is_mark text whole marks in
     let within = mark_within text whole own.0 torn mark reads own.1 in
     before_redo (base_lsn (history whole)) c.args.redo_lsn (last_lsn (history whole)) mark.lsn within.1
     (elim (c.place_before.ensures.before mark) [

@@ -5,8 +5,9 @@ use Rattle.tables.specs.Tables.{TablesContent}
 use Rattle.redo.specs.Routes.{skipped}
 use Rattle.pieces.specs.declared.mark.Mark.{Mark}
 use Rattle.passes.specs.Redoing.{AreTalliedUpTo}
-use Rattle.passes.proofs.Redoing.{mark_within, tallied_first, is_before_end}
-use Rattle.passes.proofs.Reached.{keeps_same, keeps_on, still_told}
+use Rattle.passes.proofs.Forward.{is_before}
+use Rattle.passes.proofs.Redoing.{mark_within, tallied_first}
+use Rattle.passes.proofs.Calls.{still, read_none, reads_on}
 use Rattle.passes.proofs.repeat.tally_in_pieces.Goals as goal
 
 pub loop-mark-init : goal.loop-mark-init
@@ -16,12 +17,11 @@ loop-mark-init g c =
     let upto : c.in_ok-scan.scan.upto ≤ mark.lsn = omega (arith, begun.upto, c.min-base.ensures) in
     record {
       room = refl;
-      same = keeps_same (g.S.Reread.text c.args.source.now);
-      failures = refl;
-      offset = c.mark_to_begin-mark.ensures.low.offset;
+      source = read_none;
+      low = c.mark_to_begin-mark.ensures.low;
       upto = upto;
       count = begun.count;
-      marked = λ text whole is marks. c.mark_to_begin-mark.ensures.is_mark text whole marks;
+      marked = λ text is whole marks. c.mark_to_begin-mark.ensures.is_mark text whole marks;
       tallied = λ text whole torn is reads marks stored images numbered shows.
           let own = c.mark_to_begin-mark.ensures.is_mark text whole marks in
           let within = mark_within text whole own.0 torn mark reads own.1 in
@@ -37,18 +37,17 @@ loop-mark-preserved g c =
     let piece = c.in_ok-mark.ensures in
     record {
       room = omega (arith, c.tally_piece.auto.room, inv.room);
-      same = keeps_on (g.S.Reread.text c.args.source.now) (g.S.Reread.text c.loop-mark.source) (g.S.Reread.text c.tally_piece.new.source) inv.same piece.same;
-      failures = piece.no_failure ∙ inv.failures;
-      offset = piece.reach;
+      source = reads_on inv.source piece.source;
+      low = piece.low;
       upto = omega (arith, piece.upto);
       count = piece.count ∙ inv.count;
-      marked = λ text whole is marks.
-          let own = inv.marked text whole is marks in
-          piece.next text own.0 (still_told (g.S.Reread.text c.args.source.now) (g.S.Reread.text c.loop-mark.source) text inv.same is) own.1;
+      marked = λ text is whole marks.
+          let own = inv.marked text is whole marks in
+          piece.next text own.0 (still inv.source is) own.1;
       tallied = λ text whole torn is reads marks stored images numbered shows.
-          let own = inv.marked text whole is marks in
-          piece.tallied text whole own.0 images c.args.tables.now (still_told (g.S.Reread.text c.args.source.now) (g.S.Reread.text c.loop-mark.source) text inv.same is)
-          (is_before_end text whole own.0 torn c.args.marks.now c.loop-mark.mark c.end-end.result reads own.1 marks c.end-end.ensures.end c.loop-mark-test.true) (inv.tallied text whole torn is reads marks stored images numbered shows);
+          let own = inv.marked text is whole marks in
+          piece.tallied text whole own.0 (still inv.source is)
+          (is_before text whole own.0 torn c.end-end.result.lsn c.loop-mark.mark reads (c.end-end.ensures.last text whole marks) own.1 c.loop-mark-test.true) images c.args.tables.now (inv.tallied text whole torn is reads marks stored images numbered shows);
     }
 
 pub returns-in_err-mark-clause-fault : goal.returns-in_err-mark-clause-fault
@@ -56,17 +55,16 @@ returns-in_err-mark-clause-fault g c =
     let inv = c.loop-mark.invariant in
     let exit = err_from_is_err_and c.from_residual-in_err-mark.result c.from_residual-in_err-mark.ensures.1 in
     rw (exit.1, exit.2)
-    (λ text whole torn is reads marks long stored images numbered shows.
-    let own = inv.marked text whole is marks in
-    c.in_err-mark.ensures.fault text whole own.0 images c.args.tables.now (still_told (g.S.Reread.text c.args.source.now) (g.S.Reread.text c.loop-mark.source) text inv.same is)
-    (is_before_end text whole own.0 torn c.args.marks.now c.loop-mark.mark c.end-end.result reads own.1 marks c.end-end.ensures.end c.loop-mark-test.true) (inv.tallied text whole torn is reads marks stored images numbered shows)
-    (omega (arith, long, inv.room)))
+    (λ text whole torn is reads marks stored images numbered shows.
+    let own = inv.marked text is whole marks in
+    c.in_err-mark.ensures.fault text whole own.0 (still inv.source is)
+    (is_before text whole own.0 torn c.end-end.result.lsn c.loop-mark.mark reads (c.end-end.ensures.last text whole marks) own.1 c.loop-mark-test.true) images c.args.tables.now (inv.tallied text whole torn is reads marks stored images numbered shows))
 
 pub returns-clause-tallied : goal.returns-clause-tallied
 returns-clause-tallied g c = λ text whole torn is reads marks stored images numbered shows.
     let inv = c.loop-mark.invariant in
-    let own = inv.marked text whole is marks in
+    let own = inv.marked text is whole marks in
     let within = mark_within text whole own.0 torn c.loop-mark.mark reads own.1 in
     let at : c.loop-mark.mark.lsn ≡ last_lsn (history whole) =
-    omega (arith, within.1, c.loop-mark-test.false, ap (λ (m : Mark). m.lsn) (c.end-end.ensures.end c.loop-mark.mark), marks.last c.loop-mark.mark) in
+    omega (arith, within.1, c.loop-mark-test.false, c.end-end.ensures.last text whole marks) in
     subst (λ n. AreTalliedUpTo whole images c.args.tables.now n c.loop-mark.scan) at (inv.tallied text whole torn is reads marks stored images numbered shows)

@@ -9,14 +9,14 @@ pub returns-in_err-piece-clause-fault : goal.returns-in_err-piece-clause-fault
 returns-in_err-piece-clause-fault g c =
     let exit = err_from_is_err_and c.from_residual.result c.from_residual.ensures.1 in
     rw (exit.1, exit.2)
-    (λ text whole before images tables is own tallied long.
-    resource_cause whole (length images) tables.redo_lsn c.in_err-piece.field-0.0 (c.in_err-piece.ensures.fault text whole before is own long))
+    (λ text whole before is own images tables tallied.
+    resource_cause whole (length images) tables.redo_lsn c.in_err-piece.field-0.0 (c.in_err-piece.ensures.fault text whole before is own))
 
 pub returns-in_err-pass-clause-fault : goal.returns-in_err-pass-clause-fault
 returns-in_err-pass-clause-fault g c =
     let exit = err_from_is_err_and c.from_residual-in_err-pass.result c.from_residual-in_err-pass.ensures.1 in
     rw (exit.1, exit.2)
-    (λ text whole before images tables is own tallied long.
+    (λ text whole before is own images tables tallied.
     let piece = c.in_ok-piece.piece in
     let next = c.in_ok-piece.ensures.next text before is own.is_mark in
     let cause = subst (λ n. PieceFault piece n tables.redo_lsn c.in_err-pass.field-0.0) tallied.tallied.count
@@ -28,7 +28,7 @@ pub returns-clause-next : goal.returns-clause-next
 returns-clause-next g c = λ text before is mark. (_, (c.in_ok-piece.ensures.next text before is mark).is_next)
 
 pub returns-clause-tallied : goal.returns-clause-tallied
-returns-clause-tallied g c = λ text whole before images tables is own tallied.
+returns-clause-tallied g c = λ text whole before is own images tables tallied.
     let piece = c.in_ok-piece.piece in
     let next = c.in_ok-piece.ensures.next text before is own.is_mark in
     let passed = c.in_ok-pass.ensures in

@@ -30,7 +30,7 @@ returns-in-Err-clause-fault g c = λ text is before stored master numbered shows
     ]
 
 pub returns-in-Err-clause-read : goal.returns-in-Err-clause-read
-returns-in-Err-clause-read g c = once_read (g.L.Reread.text c.args.log.now) (g.L.Reread.text c.restart_in_pieces.new.source) _ c.fault_after.result c.restart_in_pieces.ensures.same c.fault_after.ensures.read
+returns-in-Err-clause-read g c = once_read (g.L.Reread.text c.args.log.now) (g.L.Reread.text c.restart_in_pieces.new.source) _ c.fault_after.result c.restart_in_pieces.ensures.source.same c.fault_after.ensures.read
 
 pub returns-clause-lawful : goal.returns-clause-lawful
 returns-clause-lawful g c = λ base text whole torn is reads before stored master numbered shows lawful.

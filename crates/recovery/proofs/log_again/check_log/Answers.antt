@@ -7,4 +7,4 @@ returns-clause-reads g c = λ text is.
     (found.whole, _, found.reads)
 
 pub returns-in-Err-clause-read : goal.returns-in-Err-clause-read
-returns-in-Err-clause-read g c = once_read (g.L.Reread.text c.args.log.now) (g.L.Reread.text c.find_marks.new.source) _ c.fault_after.result c.find_marks.ensures.same c.fault_after.ensures.read
+returns-in-Err-clause-read g c = once_read (g.L.Reread.text c.args.log.now) (g.L.Reread.text c.find_marks.new.source) _ c.fault_after.result c.find_marks.ensures.source.same c.fault_after.ensures.read

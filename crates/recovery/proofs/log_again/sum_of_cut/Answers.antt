@@ -1,7 +1,6 @@
 use Rattle.std.proofs.Common.{◌≡◌, ◌+◌, ◌-◌, List, ℕ, length, take, drop, refl, sym, ap, ◌∙◌, arith, length-append, length-drop, length-take}
 use Rattle.std.proofs.Math.Seq.{drop-drop}
 use Rattle.std.proofs.KnownBytes.{Keeps-refl, Keeps-trans}
-use Rattle.std.proofs.lemmas.List.{take_all}
 use Rattle.page.specs.declared.fault.Fault.TheVariants.{ReadLog}
 use Rattle.passes.proofs.Reached.{still_told}
 use Rattle.recovery.specs.TailFile.{sum_on, sum_of}

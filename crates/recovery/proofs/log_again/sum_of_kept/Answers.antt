@@ -1,4 +1,4 @@
-use Rattle.std.proofs.Common.{◌≡◌, ◌-◌, List, ℕ, length, take, drop, ap, ◌∙◌, arith, length-take}
+use Rattle.std.proofs.Common.{◌≡◌, ◌-◌, length, take, drop, ap, ◌∙◌, arith, length-take}
 use Rattle.recovery.specs.TailFile.{sum_of}
 use Rattle.recovery.proofs.ByPieces.{end_again}
 use Rattle.recovery.proofs.log_again.sum_of_kept.Goals as goal

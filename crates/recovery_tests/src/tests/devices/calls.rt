@@ -5,6 +5,7 @@ use super::{
     worked_two_losers,
 };
 use crate::in_memory::recover_in_memory;
+use aries::CopiedLog;
 use checks::{check, check_at};
 use device::{Pace, SlowSink};
 use page::Fault;
@@ -96,12 +97,13 @@ fn log_left_at<R: Threads + Sync>(
     worked: &Worked,
     call: u32,
 ) -> Result<Vec<u8>, Fail> {
-    let mut log = SlowSink::new(alloc, worked.row.made.bytes.len(), Pace::failing(7, call))?;
+    let sink = SlowSink::new(alloc, worked.row.made.bytes.len(), Pace::failing(7, call))?;
+    let mut new_log = CopiedLog { sink };
     let mut store = SlowSink::new(alloc, worked.after.len(), Pace::of_step(7))?;
     let fast = Paces::all(Pace::of_step(usize::MAX));
-    let answer = recovered(rt, alloc, way, worked, &fast, &mut log, &mut store);
+    let answer = recovered(rt, alloc, way, worked, &fast, &mut new_log, &mut store);
     check(answer == Err(Fault::WriteLog), "another answer")?;
-    Ok(Vec::from_slice(alloc, log.bytes())?)
+    Ok(Vec::from_slice(alloc, new_log.sink.bytes())?)
 }
 
 /// Whether a recovery of this log, on the store that the row begins with, makes the row's.

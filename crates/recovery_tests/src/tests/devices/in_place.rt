@@ -7,11 +7,10 @@ mod faults;
 use super::{
     OPTIONS, Worked, on_empty_page, worked_one_commit, worked_one_loser, worked_two_losers,
 };
-use aries::{Options, Report, TailFile};
+use aries::{ContinuedLog, Options, Report, TailFile, recover_in_pieces};
 use checks::{check, check_all};
 use device::{MemorySource, Pace, Reread, SlowSink, SlowSource};
 use page::{Fault, Page, encode_page};
-use recovery::recover_in_place;
 use std::alloc::Global;
 use std::test::Fail;
 use wal::Record;
@@ -57,8 +56,7 @@ impl Paces {
 #[derive(Drop)]
 struct Left {
     answer: Result<Report, Fault>,
-    tail: SlowSink,
-    log: SlowSink,
+    new: ContinuedLog<SlowSink, SlowSink>,
     store: SlowSink,
 }
 
@@ -67,8 +65,10 @@ fn begun(alloc: Global, worked: &Worked, bytes: &[u8], paces: &Paces) -> Result<
     let room = bytes.len().max(worked.row.made.bytes.len());
     Ok(Left {
         answer: Err(Fault::NoResource),
-        tail: SlowSink::new(alloc, TAIL_ROOM, paces.tail)?,
-        log: SlowSink::holding(alloc, bytes, room, paces.log)?,
+        new: ContinuedLog {
+            tail: SlowSink::new(alloc, TAIL_ROOM, paces.tail)?,
+            log: SlowSink::holding(alloc, bytes, room, paces.log)?,
+        },
         store: SlowSink::new(alloc, worked.after.len(), paces.store)?,
     })
 }
@@ -81,15 +81,7 @@ fn recovered<L: Reread, S: Reread>(
     left: &mut Left,
     options: &Options,
 ) -> Result<Report, Fault> {
-    recover_in_place(
-        alloc,
-        log,
-        store,
-        &mut left.tail,
-        &mut left.log,
-        &mut left.store,
-        options,
-    )
+    recover_in_pieces(alloc, log, store, &mut left.new, &mut left.store, options)
 }
 
 /// Recovers a row over devices of these paces, from a log of these bytes.
@@ -149,15 +141,17 @@ fn is_told(report: &Report, expected: Expected, torn: usize) -> bool {
 fn are_whole(worked: &Worked, left: &Left) -> bool {
     let new_log = worked.row.made.bytes.as_slice();
     let new_store = worked.after.as_slice();
-    left.log.bytes() == new_log
-        && left.log.flushed() == new_log
+    left.new.log.bytes() == new_log
+        && left.new.log.flushed() == new_log
         && left.store.bytes() == new_store
         && left.store.flushed() == new_store
 }
 
 /// Whether the log is as it was, and nothing is in the other sinks.
 fn is_untouched(left: &Left, bytes: &[u8]) -> bool {
-    left.log.bytes() == bytes && left.tail.bytes().is_empty() && left.store.bytes().is_empty()
+    left.new.log.bytes() == bytes
+        && left.new.tail.bytes().is_empty()
+        && left.store.bytes().is_empty()
 }
 
 /// Whether these bytes are the file of the row's tail for this log.
@@ -184,7 +178,7 @@ fn check_left(worked: &Worked, bytes: &[u8], left: &Left, expected: Expected) ->
         (is_answered, "the report"),
         (are_whole(worked, left), "the log and the store"),
         (
-            is_tail_file(worked, bytes, left.tail.bytes()),
+            is_tail_file(worked, bytes, left.new.tail.bytes()),
             "the file of the tail",
         ),
     ])
@@ -236,7 +230,7 @@ fn a_torn_tail_file_is_none(rt: HostRuntime) -> Result<(), Fail> {
     let alloc = rt.alloc();
     let worked = worked_two_losers(alloc)?;
     let left = left_in_memory(alloc, &worked, &worked.row.given.bytes)?;
-    let whole = left.tail.bytes();
+    let whole = left.new.tail.bytes();
     for length in 0..whole.len() {
         let (front, _) = whole.split_at(length);
         check(TailFile::read(front).is_none(), "a torn file")?;

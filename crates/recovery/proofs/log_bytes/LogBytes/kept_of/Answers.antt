@@ -1,5 +1,4 @@
 use Rattle.std.proofs.Common.{◌≡◌, ◌++◌, ◌-◌, List, ℕ, length, take, drop, ap, ap₂, sym, ◌∙◌, arith}
-use Rattle.std.specs.Prelude.{min}
 use Rattle.recovery.specs.declared.recovery.Remade.{Remade}
 use Rattle.recovery.specs.LogText.{text_of}
 use Rattle.recovery.proofs.LogTexts.{kept_is}

@@ -69,14 +69,14 @@ enum Stage {
 /// Whether the log is continued and flushed, and the sink of the new store has a prefix of it.
 fn is_store_begun(worked: &Worked, left: &Left) -> bool {
     let new_log = worked.row.made.bytes.as_slice();
-    left.log.bytes() == new_log
-        && left.log.flushed() == new_log
+    left.new.log.bytes() == new_log
+        && left.new.log.flushed() == new_log
         && worked.after.starts_with(left.store.bytes())
 }
 
 /// Whether the log is a prefix of the new one, with all that was kept of the old one.
 fn is_cut(worked: &Worked, left: &Left) -> bool {
-    let log = left.log.bytes();
+    let log = left.new.log.bytes();
     log.len() >= worked.row.given.bytes.len() && worked.row.made.bytes.starts_with(log)
 }
 
@@ -89,7 +89,7 @@ fn stage_of(worked: &Worked, read: &[u8], left: &Left) -> Stage {
         return Stage::Store;
     }
     match left.store.bytes().is_empty() {
-        true if left.log.bytes() == read => Stage::Tail,
+        true if left.new.log.bytes() == read => Stage::Tail,
         true if is_cut(worked, left) => Stage::Log,
         _ => Stage::Other,
     }
@@ -97,7 +97,7 @@ fn stage_of(worked: &Worked, read: &[u8], left: &Left) -> Stage {
 
 /// A recovery of what is left of the log and of the old store must end as the first would have.
 fn check_again(alloc: Global, worked: &Worked, left: &Left, call: u32) -> Result<(), Fail> {
-    let again = left_of(alloc, worked, left.log.bytes(), &Paces::fast())?;
+    let again = left_of(alloc, worked, left.new.log.bytes(), &Paces::fast())?;
     let is_whole = again.answer.is_ok() && are_whole(worked, &again);
     check_at(call as usize, is_whole, "gone on from call")
 }

@@ -111,7 +111,7 @@ fn check_late(worked: &Worked, left: &Left, fault: Fault, length: usize) -> Resu
     check_all(&[
         (is_blamed, "the fault"),
         (
-            left.log.bytes() == new_log && left.log.flushed() == new_log,
+            left.new.log.bytes() == new_log && left.new.log.flushed() == new_log,
             "the log",
         ),
         (
