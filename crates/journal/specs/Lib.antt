@@ -18,3 +18,4 @@ pub mod Lives
 pub mod JournalState
 pub mod Owned
 pub mod Rollbacks
+pub mod Outcomes

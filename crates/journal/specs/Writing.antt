@@ -19,3 +19,7 @@ HasKind (Abort p) kind plain = (kind ≡ 4) × (p ≡ plain)
 HasKind (End p) kind plain = (kind ≡ 5) × (p ≡ plain)
 HasKind (Prepare p) kind plain = (kind ≡ 8) × (p ≡ plain)
 HasKind r kind plain = ⊥
+
+-- this text was written at this place, after a text that ends there
+abbrev pub Continues : (more : List ℕ) → (at : ℕ) → (before now : List ℕ) → Type 0
+Continues more at before now = (text began : List ℕ) → length text ≡ at → Begins text began before → Begins (text ++ more) began now

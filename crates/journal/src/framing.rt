@@ -1,12 +1,12 @@
 //! The frames of records, written into a buffer. Nothing is allocated.
 
-ghost use Rattle.std.specs.Prelude.{◌≡◌, ◌≤◌, ◌<◌, ◌+◌, ◌++◌, ℕ, List, length};
+ghost use Rattle.std.specs.Prelude.{◌≡◌, ◌≤◌, ◌<◌, ◌+◌, length};
 ghost use Rattle.page.specs.declared.profile.TheConstants.{SLOTS};
 ghost use Rattle.wal.specs.declared.sizes.TheConstants.{CELL_HEAD, LSN_BYTES, PLAIN_FRAME};
 ghost use Rattle.log_laws.specs.Records.{LogRecord, Update, Compensation};
 ghost use Rattle.wal.specs.Spelling.{image, frame, Fits};
 ghost use Rattle.journal.specs.Arrays.{image_of};
-ghost use Rattle.journal.specs.Writing.{Begins, IsWritten, HasKind};
+ghost use Rattle.journal.specs.Writing.{Continues, IsWritten, HasKind};
 
 use crate::image::Image;
 use page::VALUE_BYTES;
@@ -24,8 +24,7 @@ pub const LONGEST_UNDO: usize = CELL_HEAD + LSN_BYTES + 1 + VALUE_BYTES;
 /// Writes bytes at an offset.
 pub fn put(out: &mut [u8], at: usize, bytes: &[u8])
     requires { at + length bytes.now ≤ length out.old }
-    ensures { (text before : List ℕ) → length text ≡ at → Begins text before out.old
-        → Begins (text ++ bytes.now) before out.new }
+    ensures { Continues bytes.now at out.old out.new }
 {
     out[at..at + bytes.len()].copy_from_slice(bytes);
 }
@@ -33,8 +32,7 @@ pub fn put(out: &mut [u8], at: usize, bytes: &[u8])
 /// Writes an image at an offset.
 fn put_image(out: &mut [u8], at: usize, written: &Image)
     requires { at + length (image (image_of written.now)) ≤ length out.old }
-    ensures { (text before : List ℕ) → length text ≡ at → Begins text before out.old
-        → Begins (text ++ image (image_of written.now)) before out.new }
+    ensures { Continues (image (image_of written.now)) at out.old out.new }
 {
     match written.bytes() {
         Some(bytes) => {

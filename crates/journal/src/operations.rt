@@ -20,9 +20,10 @@ ghost use Rattle.journal.specs.declared.framing.TheConstants.{LONGEST_CHANGE, LO
 ghost use Rattle.journal.specs.Refusals.{IsNotRoom, StepRefused, RefusedFor, PrepareRefused, UpdateRefused, UndoRefused, EndRefused, CellMissing, CellRefused};
 ghost use Rattle.journal.specs.Transactions.{IsFreeFor};
 ghost use Rattle.journal.specs.Holders.{IsHolder};
-ghost use Rattle.journal.specs.State.{IsJournal, OthersStay, update_by, IsUndo, plain_by};
+ghost use Rattle.journal.specs.State.{OthersStay};
+ghost use Rattle.journal.specs.Outcomes.{given, left, AreSame, TableIsSame, LeavesRest, Updates, WritesUpdate, OthersStayIn, RefusesUpdate, Undoes, LessIsOwedIn, RefusesUndo, Logs, Writes, LessIsOwed, Refuses, RefusesPrepare, LogsEnd, WritesEnd, LessIsOwedBy, RefusesEnd, IsNewest, MayUndo, HasFewPending, RefusesNewest, NamesHolder, RefusesHolder};
 
-use crate::entries::{Head, PageEntry, PendingEntry, TransactionEntry};
+use crate::entries::{Arrays, Head, PageEntry, PendingEntry, TransactionEntry};
 use crate::framing::{compensation_size, put_compensation, put_plain, put_update, update_size};
 use crate::image::Image;
 use crate::page_entry::{change_cell, is_cell};
@@ -156,12 +157,8 @@ pub fn holder(
     page: u32,
     slot: u8,
 ) -> Result<Option<u32>, Refusal>
-    ensures held { IfOk result (λ holder. (base : BasePages) (run : Run) (ps : List PendingEntry)
-        → IsJournal base run head.now transactions.now pages.now ps
-        → IsHolder run page slot holder) }
-    ensures refused { IfErr result (λ e. (base : BasePages) (run : Run) (ps : List PendingEntry)
-        → IsJournal base run head.now transactions.now pages.now ps
-        → CellMissing (count_of run) page slot e) }
+    ensures held { IfOk result (NamesHolder head.now transactions.now pages.now page slot) }
+    ensures refused { IfErr result (RefusesHolder head.now transactions.now pages.now page slot) }
 {
     let count = used(head.transactions, transactions.len())?;
     let (_, writer) = cell_at(pages, page, slot)?;
@@ -190,48 +187,34 @@ pub fn holder(
 /// - NoFrameRoom: `out` is shorter than the frame, which takes this many bytes.
 /// - NoPendingRoom: the array of pending updates is full, and each of them may still be undone.
 pub fn update(
-    head: &mut Head,
-    transactions: &mut [TransactionEntry],
-    pages: &mut [PageEntry],
-    pending: &mut [PendingEntry],
+    arrays: Arrays<'_>,
     tx: u32,
     page: u32,
     slot: u8,
     after: &Image,
     out: &mut [u8],
 ) -> Result<usize, Refusal>
-    ensures ok { OnOk result ((base : BasePages) (run : Run)
-        → IsJournal base run head.old transactions.old pages.old pending.old
-        → IsJournal base (appended run (update_by base run tx page slot (image_of after.now)))
-        head.new transactions.new pages.new pending.new) }
-    ensures written { IfOk result (λ size. (base : BasePages) (run : Run)
-        → IsJournal base run head.old transactions.old pages.old pending.old
-        → IsWritten (update_by base run tx page slot (image_of after.now)) (head.old.last + 1)
-        out.old out.new size) }
-    ensures others { OnOk result ((base : BasePages) (run : Run)
-        → IsJournal base run head.old transactions.old pages.old pending.old
-        → LeavesOthers tx (take head.old.transactions transactions.old)
-        (take head.old.pending pending.old)
-        (take head.new.transactions transactions.new) (take head.new.pending pending.new)) }
+    ensures ok { OnOk result (Updates (given arrays.entry) (left arrays.exit) tx page slot after.now) }
+    ensures written { IfOk result
+        (WritesUpdate (given arrays.entry) tx page slot after.now out.old out.new) }
+    ensures others { OnOk result (OthersStayIn (given arrays.entry) (left arrays.exit) tx) }
     ensures size { IfOk result (λ size. size ≤ length out.old) }
     ensures short { IfOk result (λ size. size ≤ LONGEST_CHANGE) }
     ensures enough { LONGEST_CHANGE ≤ length out.old → IfErr result IsNotRoom }
-    ensures count { head.new.transactions ≡ head.old.transactions }
-    ensures updates { OnOk result (head.new.pending ≤ length pending.old) }
-    ensures lsn { OnOk result (head.new.last ≡ head.old.last + 1) }
-    ensures unforced { head.new.written ≡ head.old.written }
-    ensures next { head.new.next ≡ head.old.next }
-    ensures head { OnErr result (head.new ≡ head.old) }
-    ensures transactions { OnErr result (transactions.new ≡ transactions.old) }
-    ensures pages { OnErr result (pages.new ≡ pages.old) }
-    ensures pending { OnErr result (pending.new ≡ pending.old) }
-    ensures out { OnErr result (out.new ≡ out.old) }
-    ensures refused { IfErr result (λ e. (base : BasePages) (run : Run)
-        → IsJournal base run head.old transactions.old pages.old pending.old
-        → UpdateRefused run tx page slot after.now
-        (length (frame (update_by base run tx page slot (image_of after.now)) (head.old.last + 1)))
-        (length out.old) head.old transactions.old pending.old e) }
+    ensures count { arrays.exit.0.now.transactions ≡ arrays.entry.head.now.transactions }
+    ensures updates { OnOk result (arrays.exit.0.now.pending ≤ length arrays.entry.pending.now) }
+    ensures lsn { OnOk result (arrays.exit.0.now.last ≡ arrays.entry.head.now.last + 1) }
+    ensures rest { LeavesRest arrays.entry.head.now arrays.exit.0.now }
+    ensures same { OnErr result (AreSame (given arrays.entry) (left arrays.exit) out.old out.new) }
+    ensures refused { IfErr result
+        (RefusesUpdate (given arrays.entry) tx page slot after.now (length out.old)) }
 {
+    let Arrays {
+        head,
+        transactions,
+        pages,
+        pending,
+    } = arrays;
     if !after.is_valid() {
         return Err(Refusal::BadImage);
     }
@@ -271,45 +254,26 @@ pub fn update(
 /// - NothingToUndo: the transaction has no pending update.
 /// - NoFrameRoom: `out` is shorter than the frame, which takes this many bytes.
 /// - BadArrays, LogFull: the arrays are not those of a journal.
-pub fn undo(
-    head: &mut Head,
-    transactions: &mut [TransactionEntry],
-    pages: &mut [PageEntry],
-    pending: &mut [PendingEntry],
-    tx: u32,
-    out: &mut [u8],
-) -> Result<usize, Refusal>
-    ensures ok { IfOk result (λ size. (base : BasePages) (run : Run)
-        → IsJournal base run head.old transactions.old pages.old pending.old
-        → (r : LogRecord) × IsUndo run tx r
-        × IsJournal base (appended run r) head.new transactions.new pages.new pending.new
-        × IsWritten r (head.old.last + 1) out.old out.new size) }
-    ensures others { OnOk result ((base : BasePages) (run : Run)
-        → IsJournal base run head.old transactions.old pages.old pending.old
-        → LeavesOthers tx (take head.old.transactions transactions.old)
-        (take head.old.pending pending.old)
-        (take head.new.transactions transactions.new) (take head.new.pending pending.new)) }
+pub fn undo(arrays: Arrays<'_>, tx: u32, out: &mut [u8]) -> Result<usize, Refusal>
+    ensures ok { IfOk result (Undoes (given arrays.entry) (left arrays.exit) tx out.old out.new) }
+    ensures others { OnOk result (OthersStayIn (given arrays.entry) (left arrays.exit) tx) }
+    ensures owes { OnOk result (LessIsOwedIn (given arrays.entry) (left arrays.exit)) }
     ensures size { IfOk result (λ size. size ≤ length out.old) }
-    ensures owes { OnOk result ((base : BasePages) (run : Run)
-        → IsJournal base run head.old transactions.old pages.old pending.old
-        → OwesLess (take head.old.transactions transactions.old) (take head.old.pending pending.old)
-        (take head.new.transactions transactions.new) (take head.new.pending pending.new)) }
     ensures short { IfOk result (λ size. size ≤ LONGEST_UNDO) }
     ensures enough { LONGEST_UNDO ≤ length out.old → IfErr result IsNotRoom }
-    ensures count { head.new.transactions ≡ head.old.transactions }
-    ensures updates { head.new.pending ≡ head.old.pending }
-    ensures lsn { OnOk result (head.new.last ≡ head.old.last + 1) }
-    ensures unforced { head.new.written ≡ head.old.written }
-    ensures next { head.new.next ≡ head.old.next }
-    ensures head { OnErr result (head.new ≡ head.old) }
-    ensures transactions { OnErr result (transactions.new ≡ transactions.old) }
-    ensures pages { OnErr result (pages.new ≡ pages.old) }
-    ensures pending { OnErr result (pending.new ≡ pending.old) }
-    ensures out { OnErr result (out.new ≡ out.old) }
-    ensures refused { IfErr result (λ e. (base : BasePages) (run : Run)
-        → IsJournal base run head.old transactions.old pages.old pending.old
-        → UndoRefused run tx (length out.old) e) }
+    ensures count { arrays.exit.0.now.transactions ≡ arrays.entry.head.now.transactions }
+    ensures updates { arrays.exit.0.now.pending ≡ arrays.entry.head.now.pending }
+    ensures lsn { OnOk result (arrays.exit.0.now.last ≡ arrays.entry.head.now.last + 1) }
+    ensures rest { LeavesRest arrays.entry.head.now arrays.exit.0.now }
+    ensures same { OnErr result (AreSame (given arrays.entry) (left arrays.exit) out.old out.new) }
+    ensures refused { IfErr result (RefusesUndo (given arrays.entry) tx (length out.old)) }
 {
+    let Arrays {
+        head,
+        transactions,
+        pages,
+        pending,
+    } = arrays;
     let count = used(head.transactions, transactions.len())?;
     let _count = used(head.pending, pending.len())?;
     let entries = &transactions[..count];
@@ -357,36 +321,21 @@ pub fn commit(
     tx: u32,
     out: &mut [u8],
 ) -> Result<usize, Refusal>
-    ensures ok { OnOk result ((base : BasePages) (run : Run) (pages : List PageEntry)
-        (pending : List PendingEntry)
-        → IsJournal base run head.old transactions.old pages pending
-        → IsJournal base (appended run (Commit (plain_by run tx))) head.new transactions.new pages
-        pending) }
-    ensures written { IfOk result (λ size. (base : BasePages) (run : Run) (pages : List PageEntry)
-        (pending : List PendingEntry)
-        → IsJournal base run head.old transactions.old pages pending
-        → IsWritten (Commit (plain_by run tx)) (head.old.last + 1) out.old out.new size) }
+    ensures ok { OnOk result (Logs Commit head.old transactions.old head.new transactions.new tx) }
+    ensures written { IfOk result (Writes Commit head.old transactions.old tx out.old out.new) }
     ensures others { OnOk result (OthersStay head.old transactions.old head.new transactions.new tx) }
+    ensures owes { OnOk result (LessIsOwed head.old transactions.old head.new transactions.new) }
     ensures size { IfOk result (λ size. size ≤ length out.old) }
-    ensures owes { OnOk result ((base : BasePages) (run : Run) (pages : List PageEntry)
-        (pending : List PendingEntry)
-        → IsJournal base run head.old transactions.old pages pending
-        → OwesLess (take head.old.transactions transactions.old) (take head.old.pending pending)
-        (take head.new.transactions transactions.new) (take head.new.pending pending)) }
     ensures short { IfOk result (λ size. size ≡ PLAIN_FRAME) }
     ensures enough { PLAIN_FRAME ≤ length out.old → IfErr result IsNotRoom }
     ensures count { head.new.transactions ≤ head.old.transactions }
     ensures updates { head.new.pending ≡ head.old.pending }
     ensures lsn { OnOk result (head.new.last ≡ head.old.last + 1) }
-    ensures unforced { head.new.written ≡ head.old.written }
-    ensures next { head.new.next ≡ head.old.next }
-    ensures head { OnErr result (head.new ≡ head.old) }
-    ensures transactions { OnErr result (transactions.new ≡ transactions.old) }
-    ensures out { OnErr result (out.new ≡ out.old) }
-    ensures refused { IfErr result (λ e. (base : BasePages) (run : Run) (pages : List PageEntry)
-        (pending : List PendingEntry)
-        → IsJournal base run head.old transactions.old pages pending
-        → RefusedFor NotAborting run tx PLAIN_FRAME (length out.old) e) }
+    ensures rest { LeavesRest head.old head.new }
+    ensures same { OnErr result
+        (TableIsSame head.old transactions.old out.old head.new transactions.new out.new) }
+    ensures refused { IfErr result
+        (Refuses NotAborting head.old transactions.old tx (length out.old)) }
 {
     let count = used(head.transactions, transactions.len())?;
     let place = place_for(&transactions[..count], tx, Need::NotAborting)?;
@@ -415,36 +364,21 @@ pub fn abort(
     tx: u32,
     out: &mut [u8],
 ) -> Result<usize, Refusal>
-    ensures ok { OnOk result ((base : BasePages) (run : Run) (pages : List PageEntry)
-        (pending : List PendingEntry)
-        → IsJournal base run head.old transactions.old pages pending
-        → IsJournal base (appended run (Abort (plain_by run tx))) head.new transactions.new pages
-        pending) }
-    ensures written { IfOk result (λ size. (base : BasePages) (run : Run) (pages : List PageEntry)
-        (pending : List PendingEntry)
-        → IsJournal base run head.old transactions.old pages pending
-        → IsWritten (Abort (plain_by run tx)) (head.old.last + 1) out.old out.new size) }
+    ensures ok { OnOk result (Logs Abort head.old transactions.old head.new transactions.new tx) }
+    ensures written { IfOk result (Writes Abort head.old transactions.old tx out.old out.new) }
     ensures others { OnOk result (OthersStay head.old transactions.old head.new transactions.new tx) }
+    ensures owes { OnOk result (LessIsOwed head.old transactions.old head.new transactions.new) }
     ensures size { IfOk result (λ size. size ≤ length out.old) }
-    ensures owes { OnOk result ((base : BasePages) (run : Run) (pages : List PageEntry)
-        (pending : List PendingEntry)
-        → IsJournal base run head.old transactions.old pages pending
-        → OwesLess (take head.old.transactions transactions.old) (take head.old.pending pending)
-        (take head.new.transactions transactions.new) (take head.new.pending pending)) }
     ensures short { IfOk result (λ size. size ≡ PLAIN_FRAME) }
     ensures enough { PLAIN_FRAME ≤ length out.old → IfErr result IsNotRoom }
     ensures count { head.new.transactions ≡ head.old.transactions }
     ensures updates { head.new.pending ≡ head.old.pending }
     ensures lsn { OnOk result (head.new.last ≡ head.old.last + 1) }
-    ensures unforced { head.new.written ≡ head.old.written }
-    ensures next { head.new.next ≡ head.old.next }
-    ensures head { OnErr result (head.new ≡ head.old) }
-    ensures transactions { OnErr result (transactions.new ≡ transactions.old) }
-    ensures out { OnErr result (out.new ≡ out.old) }
-    ensures refused { IfErr result (λ e. (base : BasePages) (run : Run) (pages : List PageEntry)
-        (pending : List PendingEntry)
-        → IsJournal base run head.old transactions.old pages pending
-        → RefusedFor NotAborting run tx PLAIN_FRAME (length out.old) e) }
+    ensures rest { LeavesRest head.old head.new }
+    ensures same { OnErr result
+        (TableIsSame head.old transactions.old out.old head.new transactions.new out.new) }
+    ensures refused { IfErr result
+        (Refuses NotAborting head.old transactions.old tx (length out.old)) }
 {
     let count = used(head.transactions, transactions.len())?;
     let place = place_for(&transactions[..count], tx, Need::NotAborting)?;
@@ -473,32 +407,24 @@ pub fn end(
     tx: u32,
     out: &mut [u8],
 ) -> Result<usize, Refusal>
-    ensures ok { OnOk result ((base : BasePages) (run : Run) (pages : List PageEntry)
-        → IsJournal base run head.old transactions.old pages pending.now
-        → IsJournal base (appended run (End (plain_by run tx))) head.new transactions.new pages
-        pending.now) }
-    ensures written { IfOk result (λ size. (base : BasePages) (run : Run) (pages : List PageEntry)
-        → IsJournal base run head.old transactions.old pages pending.now
-        → IsWritten (End (plain_by run tx)) (head.old.last + 1) out.old out.new size) }
+    ensures ok { OnOk result
+        (LogsEnd head.old transactions.old head.new transactions.new pending.now tx) }
+    ensures written { IfOk result
+        (WritesEnd head.old transactions.old pending.now tx out.old out.new) }
     ensures others { OnOk result (OthersStay head.old transactions.old head.new transactions.new tx) }
+    ensures owes { OnOk result
+        (LessIsOwedBy head.old transactions.old head.new transactions.new pending.now) }
     ensures size { IfOk result (λ size. size ≤ length out.old) }
-    ensures owes { OnOk result ((base : BasePages) (run : Run) (pages : List PageEntry)
-        → IsJournal base run head.old transactions.old pages pending.now
-        → OwesLess (take head.old.transactions transactions.old) (take head.old.pending pending.now)
-        (take head.new.transactions transactions.new) (take head.new.pending pending.now)) }
     ensures short { IfOk result (λ size. size ≡ PLAIN_FRAME) }
     ensures enough { PLAIN_FRAME ≤ length out.old → IfErr result IsNotRoom }
     ensures count { head.new.transactions ≤ head.old.transactions }
     ensures updates { head.new.pending ≡ head.old.pending }
     ensures lsn { OnOk result (head.new.last ≡ head.old.last + 1) }
-    ensures unforced { head.new.written ≡ head.old.written }
-    ensures next { head.new.next ≡ head.old.next }
-    ensures head { OnErr result (head.new ≡ head.old) }
-    ensures transactions { OnErr result (transactions.new ≡ transactions.old) }
-    ensures out { OnErr result (out.new ≡ out.old) }
-    ensures refused { IfErr result (λ e. (base : BasePages) (run : Run) (pages : List PageEntry)
-        → IsJournal base run head.old transactions.old pages pending.now
-        → EndRefused run tx (length out.old) e) }
+    ensures rest { LeavesRest head.old head.new }
+    ensures same { OnErr result
+        (TableIsSame head.old transactions.old out.old head.new transactions.new out.new) }
+    ensures refused { IfErr result
+        (RefusesEnd head.old transactions.old pending.now tx (length out.old)) }
 {
     let count = used(head.transactions, transactions.len())?;
     let _count = used(head.pending, pending.len())?;
@@ -534,15 +460,8 @@ pub fn prepare(
     tx: u32,
     out: &mut [u8],
 ) -> Result<usize, Refusal>
-    ensures ok { OnOk result ((base : BasePages) (run : Run) (pages : List PageEntry)
-        (pending : List PendingEntry)
-        → IsJournal base run head.old transactions.old pages pending
-        → IsJournal base (appended run (Prepare (plain_by run tx))) head.new transactions.new pages
-        pending) }
-    ensures written { IfOk result (λ size. (base : BasePages) (run : Run) (pages : List PageEntry)
-        (pending : List PendingEntry)
-        → IsJournal base run head.old transactions.old pages pending
-        → IsWritten (Prepare (plain_by run tx)) (head.old.last + 1) out.old out.new size) }
+    ensures ok { OnOk result (Logs Prepare head.old transactions.old head.new transactions.new tx) }
+    ensures written { IfOk result (Writes Prepare head.old transactions.old tx out.old out.new) }
     ensures others { OnOk result (OthersStay head.old transactions.old head.new transactions.new tx) }
     ensures size { IfOk result (λ size. size ≤ length out.old) }
     ensures short { IfOk result (λ size. size ≡ PLAIN_FRAME) }
@@ -550,15 +469,11 @@ pub fn prepare(
     ensures count { head.new.transactions ≡ head.old.transactions }
     ensures updates { head.new.pending ≡ head.old.pending }
     ensures lsn { OnOk result (head.new.last ≡ head.old.last + 1) }
-    ensures unforced { head.new.written ≡ head.old.written }
-    ensures next { head.new.next ≡ head.old.next }
-    ensures head { OnErr result (head.new ≡ head.old) }
-    ensures transactions { OnErr result (transactions.new ≡ transactions.old) }
-    ensures out { OnErr result (out.new ≡ out.old) }
-    ensures refused { IfErr result (λ e. (base : BasePages) (run : Run) (pages : List PageEntry)
-        (pending : List PendingEntry)
-        → IsJournal base run head.old transactions.old pages pending
-        → PrepareRefused run tx head.old (length out.old) e) }
+    ensures rest { LeavesRest head.old head.new }
+    ensures same { OnErr result
+        (TableIsSame head.old transactions.old out.old head.new transactions.new out.new) }
+    ensures refused { IfErr result
+        (RefusesPrepare head.old transactions.old tx (length out.old)) }
 {
     let lsn = next_lsn(head.last)?;
     let count = used(head.transactions, transactions.len())?;
@@ -580,17 +495,10 @@ pub fn newest_pending(
     pending: &[PendingEntry],
     tx: u32,
 ) -> Result<u64, Refusal>
-    ensures newest { IfOk result (λ lsn. (base : BasePages) (run : Run) (pages : List PageEntry)
-        → IsJournal base run head.now transactions.now pages pending.now
-        → lsn ≡ newest_of (pending_lsns tx (log_of run))) }
-    ensures free { OnOk result ((base : BasePages) (run : Run) (pages : List PageEntry)
-        → IsJournal base run head.now transactions.now pages pending.now → CanUndo run tx) }
-    ensures few { OnOk result ((base : BasePages) (run : Run) (pages : List PageEntry)
-        → IsJournal base run head.now transactions.now pages pending.now
-        → length (pending_lsns tx (log_of run)) ≤ head.now.pending) }
-    ensures refused { IfErr result (λ e. (base : BasePages) (run : Run) (pages : List PageEntry)
-        → IsJournal base run head.now transactions.now pages pending.now
-        → StepRefused NotPrepared run tx e) }
+    ensures newest { IfOk result (IsNewest head.now transactions.now pending.now tx) }
+    ensures free { OnOk result (MayUndo head.now transactions.now pending.now tx) }
+    ensures few { OnOk result (HasFewPending head.now transactions.now pending.now tx) }
+    ensures refused { IfErr result (RefusesNewest head.now transactions.now pending.now tx) }
 {
     let count = used(head.transactions, transactions.len())?;
     let _count = used(head.pending, pending.len())?;

@@ -60,11 +60,8 @@ returns-in_err-place c =
       count = le_refl _;
       updates = refl;
       lsn = tt;
-      unforced = refl;
-      next = refl;
-      head = refl;
-      transactions = refl;
-      out = refl;
+      rest = record { written = refl; next = refl };
+      same = record { head = refl; transactions = refl; out = refl };
       refused = rw exit.2 (λ base run pages pending h.
           let xs = take c.args.head.now.pending pending in
           let table = subst IsTable (sym e) h.arrays.used.table in
@@ -92,11 +89,8 @@ returns-in_err-lsn c =
       count = le_refl _;
       updates = refl;
       lsn = tt;
-      unforced = refl;
-      next = refl;
-      head = refl;
-      transactions = refl;
-      out = refl;
+      rest = record { written = refl; next = refl };
+      same = record { head = refl; transactions = refl; out = refl };
       refused = rw exit.2 (λ base run pages pending h.
           let owed = owes base run c.args.head.now ts pages pending h c.args.tx place within found in
           absurd (omega (arith, owed, full, h.reserve)));
@@ -136,11 +130,8 @@ returns-in_err-room_for c =
       count = le_refl _;
       updates = refl;
       lsn = tt;
-      unforced = refl;
-      next = refl;
-      head = refl;
-      transactions = refl;
-      out = refl;
+      rest = record { written = refl; next = refl };
+      same = record { head = refl; transactions = refl; out = refl };
       refused = rw (exit.2, c.in_err-room_for.ensures.err) (λ base run pages pending h. (refl, c.in_err-room_for.ensures.short));
     })
 
@@ -152,21 +143,6 @@ returns-clause-updates c = refl
 
 pub returns-clause-lsn : goal.returns-clause-lsn
 returns-clause-lsn c = c.in_ok-lsn.ensures.ok
-
-pub returns-clause-unforced : goal.returns-clause-unforced
-returns-clause-unforced c = refl
-
-pub returns-clause-next : goal.returns-clause-next
-returns-clause-next c = refl
-
-pub returns-clause-head : goal.returns-clause-head
-returns-clause-head c = tt
-
-pub returns-clause-transactions : goal.returns-clause-transactions
-returns-clause-transactions c = tt
-
-pub returns-clause-out : goal.returns-clause-out
-returns-clause-out c = tt
 
 pub returns-clause-refused : goal.returns-clause-refused
 returns-clause-refused c = tt

@@ -38,11 +38,8 @@ returns-then-is_some c = record {
   count = le_refl _;
   updates = refl;
   lsn = tt;
-  unforced = refl;
-  next = refl;
-  head = refl;
-  transactions = refl;
-  out = refl;
+  rest = record { written = refl; next = refl };
+  same = record { head = refl; transactions = refl; out = refl };
   refused = λ base run pages h.
       let pending : List PendingEntry = c.args.pending.now in
       let ts : List TransactionEntry = c.args.transactions.now in
@@ -110,11 +107,8 @@ returns-in_err-place c =
       count = le_refl _;
       updates = refl;
       lsn = tt;
-      unforced = refl;
-      next = refl;
-      head = refl;
-      transactions = refl;
-      out = refl;
+      rest = record { written = refl; next = refl };
+      same = record { head = refl; transactions = refl; out = refl };
       refused = rw exit.2 (λ base run pages h.
           let pending : List PendingEntry = c.args.pending.now in
           let xs = take c.args.head.now.pending pending in
@@ -143,11 +137,8 @@ returns-in_err-lsn c =
       count = le_refl _;
       updates = refl;
       lsn = tt;
-      unforced = refl;
-      next = refl;
-      head = refl;
-      transactions = refl;
-      out = refl;
+      rest = record { written = refl; next = refl };
+      same = record { head = refl; transactions = refl; out = refl };
       refused = rw exit.2 (λ base run pages h.
           let owed = owes base run c.args.head.now ts pages c.args.pending.now h c.args.tx place within found in
           absurd (omega (arith, owed, full, h.reserve)));
@@ -187,11 +178,8 @@ returns-in_err-room_for c =
       count = le_refl _;
       updates = refl;
       lsn = tt;
-      unforced = refl;
-      next = refl;
-      head = refl;
-      transactions = refl;
-      out = refl;
+      rest = record { written = refl; next = refl };
+      same = record { head = refl; transactions = refl; out = refl };
       refused = rw (exit.2, c.in_err-room_for.ensures.err) (λ base run pages h. (refl, c.in_err-room_for.ensures.short));
     })
 
@@ -203,21 +191,6 @@ returns-clause-updates c = refl
 
 pub returns-clause-lsn : goal.returns-clause-lsn
 returns-clause-lsn c = c.in_ok-lsn.ensures.ok
-
-pub returns-clause-unforced : goal.returns-clause-unforced
-returns-clause-unforced c = refl
-
-pub returns-clause-next : goal.returns-clause-next
-returns-clause-next c = refl
-
-pub returns-clause-head : goal.returns-clause-head
-returns-clause-head c = tt
-
-pub returns-clause-transactions : goal.returns-clause-transactions
-returns-clause-transactions c = tt
-
-pub returns-clause-out : goal.returns-clause-out
-returns-clause-out c = tt
 
 pub returns-clause-refused : goal.returns-clause-refused
 returns-clause-refused c = tt

@@ -1,0 +1,216 @@
+-- What an operation over arrays leaves, and why it is refused, for each run of which the arrays are the journal (own).
+use Rattle.std.specs.Prelude.{◌≡◌, ◌≤◌, ◌<◌, ◌+◌, ℕ, List, Option, length, take}
+use Rattle.std.specs.Borrow.{MutBor}
+use Rattle.log_laws.specs.Records.{LogRecord, PlainRecord, End, TableEntry, CheckpointBegin}
+use Rattle.log_laws.specs.Meaning.{BasePages, last_on, pending as pending_lsns}
+use Rattle.wal.specs.Spelling.{frame}
+use Rattle.wal.specs.declared.sizes.TheConstants.{PLAIN_FRAME}
+use Rattle.journal.specs.declared.refusal.Refusal.{Refusal}
+use Rattle.journal.specs.declared.table.Need.{Need}
+use Rattle.journal.specs.declared.table.Need.TheVariants.{NotPrepared}
+use Rattle.journal.specs.declared.image.Image.{Image}
+use Rattle.journal.specs.declared.entries.Head.{Head}
+use Rattle.journal.specs.declared.entries.TransactionEntry.{TransactionEntry}
+use Rattle.journal.specs.declared.entries.PageEntry.{PageEntry}
+use Rattle.journal.specs.declared.entries.PendingEntry.{PendingEntry}
+use Rattle.journal.specs.declared.entries.Arrays.{Arrays}
+use Rattle.journal.specs.Runs.{Run, appended, reported, count_of, log_of, AreTrueTables}
+use Rattle.journal.specs.Rollbacks.{newest_of, CanUndo}
+use Rattle.journal.specs.Holders.{IsHolder}
+use Rattle.journal.specs.Arrays.{image_of, kept_of, LeavesOthers, OwesLess}
+use Rattle.journal.specs.Writing.{Begins, IsWritten}
+use Rattle.journal.specs.Taken.{checkpoint_text, run_taken, CheckpointRefused}
+use Rattle.journal.specs.State.{IsJournal, IsUndo, update_by, plain_by}
+use Rattle.journal.specs.Refusals.{BeginRefused, CancelRefused, RefusedFor, PrepareRefused, EndRefused, UpdateRefused, UndoRefused, StepRefused, CellMissing, ReportRefused, LogWrittenRefused, PageToWriteRefused}
+
+-- ARRAYS. What the arrays of a journal hold, as one value
+pub record Held : Type 0 where
+  pub head : Head
+  pub transactions : List TransactionEntry
+  pub pages : List PageEntry
+  pub pending : List PendingEntry
+
+-- before the call
+abbrev pub given : Arrays → Held
+given a = record { head = a.head.now; transactions = a.transactions.now; pages = a.pages.now; pending = a.pending.now }
+
+-- after the call
+abbrev pub left : MutBor Head × (MutBor (List TransactionEntry) × (MutBor (List PageEntry) × (MutBor (List PendingEntry) × Unit {0}))) → Held
+left a = record { head = a.0.now; transactions = a.1.0.now; pages = a.1.1.0.now; pending = a.1.1.1.0.now }
+
+abbrev pub IsJournalOf : BasePages → Run → Held → Type 0
+IsJournalOf base run a = IsJournal base run a.head a.transactions a.pages a.pending
+
+-- A REFUSAL leaves the arrays and the buffer as they were
+pub record AreSame (before after : Held) (out_before out_after : List ℕ) : Type 0 where
+  pub head : after.head ≡ before.head
+  pub transactions : after.transactions ≡ before.transactions
+  pub pages : after.pages ≡ before.pages
+  pub pending : after.pending ≡ before.pending
+  pub out : out_after ≡ out_before
+
+-- the same of an operation that has only the head and the transactions
+pub record TableIsSame (before : Head) (ts : List TransactionEntry) (out_before : List ℕ) (after : Head) (after_ts : List TransactionEntry) (out_after : List ℕ) : Type 0 where
+  pub head : after ≡ before
+  pub transactions : after_ts ≡ ts
+  pub out : out_after ≡ out_before
+
+-- AN OPERATION leaves the LSN up to which the log is known to be on the disk, and the number of the next transaction
+pub record LeavesRest (before after : Head) : Type 0 where
+  pub written : after.written ≡ before.written
+  pub next : after.next ≡ before.next
+
+-- UPDATE. It is appended
+abbrev pub Updates : (before after : Held) → (tx page slot : ℕ) → Image → Type 0
+Updates before after tx page slot m =
+    (base : BasePages) (run : Run) → IsJournalOf base run before → IsJournalOf base (appended run (update_by base run tx page slot (image_of m))) after
+
+-- its frame is at the front of the buffer
+abbrev pub WritesUpdate : Held → (tx page slot : ℕ) → Image → (out_before out_after : List ℕ) → (size : ℕ) → Type 0
+WritesUpdate before tx page slot m out_before out_after size = (base : BasePages) (run : Run) → IsJournalOf base run before
+    → IsWritten (update_by base run tx page slot (image_of m)) (before.head.last + 1) out_before out_after size
+
+-- what is kept of each transaction but this one is as it was
+abbrev pub OthersStayIn : (before after : Held) → (tx : ℕ) → Type 0
+OthersStayIn before after tx = (base : BasePages) (run : Run) → IsJournalOf base run before
+    → LeavesOthers tx (take before.head.transactions before.transactions) (take before.head.pending before.pending)
+    (take after.head.transactions after.transactions) (take after.head.pending after.pending)
+
+-- why it is refused, if the buffer has this many bytes
+abbrev pub RefusesUpdate : Held → (tx page slot : ℕ) → Image → (room : ℕ) → Refusal → Type 0
+RefusesUpdate before tx page slot m room e = (base : BasePages) (run : Run) → IsJournalOf base run before
+    → UpdateRefused run tx page slot m (length (frame (update_by base run tx page slot (image_of m)) (before.head.last + 1))) room before.head before.transactions before.pending e
+
+-- UNDO. A CLR of the newest pending update is appended, and its frame is at the front of the buffer
+abbrev pub Undoes : (before after : Held) → (tx : ℕ) → (out_before out_after : List ℕ) → (size : ℕ) → Type 0
+Undoes before after tx out_before out_after size = (base : BasePages) (run : Run) → IsJournalOf base run before
+    → (r : LogRecord) × IsUndo run tx r × IsJournalOf base (appended run r) after × IsWritten r (before.head.last + 1) out_before out_after size
+
+abbrev pub LessIsOwedIn : (before after : Held) → Type 0
+LessIsOwedIn before after = (base : BasePages) (run : Run) → IsJournalOf base run before
+    → OwesLess (take before.head.transactions before.transactions) (take before.head.pending before.pending)
+    (take after.head.transactions after.transactions) (take after.head.pending after.pending)
+
+abbrev pub RefusesUndo : Held → (tx room : ℕ) → Refusal → Type 0
+RefusesUndo before tx room e = (base : BasePages) (run : Run) → IsJournalOf base run before → UndoRefused run tx room e
+
+-- BEGIN, CANCEL, COMMIT, ABORT AND PREPARE, whatever the pages and the pending updates are. The journal of a run is still that of the run
+abbrev pub StaysJournal : (before : Head) → List TransactionEntry → (after : Head) → List TransactionEntry → Type 0
+StaysJournal before ts after after_ts =
+    (base : BasePages) (run : Run) (pages : List PageEntry) (ps : List PendingEntry) → IsJournal base run before ts pages ps → IsJournal base run after after_ts pages ps
+
+abbrev pub RefusesBegin : Head → List TransactionEntry → Refusal → Type 0
+RefusesBegin head ts e =
+    (base : BasePages) (run : Run) (pages : List PageEntry) (ps : List PendingEntry) → IsJournal base run head ts pages ps → BeginRefused head (length ts) e
+
+abbrev pub RefusesCancel : Head → List TransactionEntry → (tx : ℕ) → Refusal → Type 0
+RefusesCancel head ts tx e =
+    (base : BasePages) (run : Run) (pages : List PageEntry) (ps : List PendingEntry) → IsJournal base run head ts pages ps
+    → CancelRefused run (kept_of (take head.transactions ts) (take head.pending ps)) tx e
+
+-- a commit, an abort or a prepare is appended
+abbrev pub Logs : (PlainRecord → LogRecord) → (before : Head) → List TransactionEntry → (after : Head) → List TransactionEntry → (tx : ℕ) → Type 0
+Logs kind before ts after after_ts tx =
+    (base : BasePages) (run : Run) (pages : List PageEntry) (ps : List PendingEntry) → IsJournal base run before ts pages ps
+    → IsJournal base (appended run (kind (plain_by run tx))) after after_ts pages ps
+
+-- its frame is at the front of the buffer
+abbrev pub Writes : (PlainRecord → LogRecord) → Head → List TransactionEntry → (tx : ℕ) → (out_before out_after : List ℕ) → (size : ℕ) → Type 0
+Writes kind head ts tx out_before out_after size =
+    (base : BasePages) (run : Run) (pages : List PageEntry) (ps : List PendingEntry) → IsJournal base run head ts pages ps
+    → IsWritten (kind (plain_by run tx)) (head.last + 1) out_before out_after size
+
+-- at least one record fewer is owed than before
+abbrev pub LessIsOwed : (before : Head) → List TransactionEntry → (after : Head) → List TransactionEntry → Type 0
+LessIsOwed before ts after after_ts =
+    (base : BasePages) (run : Run) (pages : List PageEntry) (ps : List PendingEntry) → IsJournal base run before ts pages ps
+    → OwesLess (take before.transactions ts) (take before.pending ps) (take after.transactions after_ts) (take after.pending ps)
+
+abbrev pub Refuses : Need → Head → List TransactionEntry → (tx room : ℕ) → Refusal → Type 0
+Refuses need head ts tx room e =
+    (base : BasePages) (run : Run) (pages : List PageEntry) (ps : List PendingEntry) → IsJournal base run head ts pages ps → RefusedFor need run tx PLAIN_FRAME room e
+
+abbrev pub RefusesPrepare : Head → List TransactionEntry → (tx room : ℕ) → Refusal → Type 0
+RefusesPrepare head ts tx room e =
+    (base : BasePages) (run : Run) (pages : List PageEntry) (ps : List PendingEntry) → IsJournal base run head ts pages ps → PrepareRefused run tx head room e
+
+-- END, whatever the pages are. It is appended
+abbrev pub LogsEnd : (before : Head) → List TransactionEntry → (after : Head) → List TransactionEntry → List PendingEntry → (tx : ℕ) → Type 0
+LogsEnd before ts after after_ts ps tx =
+    (base : BasePages) (run : Run) (pages : List PageEntry) → IsJournal base run before ts pages ps
+    → IsJournal base (appended run (End (plain_by run tx))) after after_ts pages ps
+
+abbrev pub WritesEnd : Head → List TransactionEntry → List PendingEntry → (tx : ℕ) → (out_before out_after : List ℕ) → (size : ℕ) → Type 0
+WritesEnd head ts ps tx out_before out_after size =
+    (base : BasePages) (run : Run) (pages : List PageEntry) → IsJournal base run head ts pages ps
+    → IsWritten (End (plain_by run tx)) (head.last + 1) out_before out_after size
+
+abbrev pub LessIsOwedBy : (before : Head) → List TransactionEntry → (after : Head) → List TransactionEntry → List PendingEntry → Type 0
+LessIsOwedBy before ts after after_ts ps =
+    (base : BasePages) (run : Run) (pages : List PageEntry) → IsJournal base run before ts pages ps
+    → OwesLess (take before.transactions ts) (take before.pending ps) (take after.transactions after_ts) (take after.pending ps)
+
+abbrev pub RefusesEnd : Head → List TransactionEntry → List PendingEntry → (tx room : ℕ) → Refusal → Type 0
+RefusesEnd head ts ps tx room e = (base : BasePages) (run : Run) (pages : List PageEntry) → IsJournal base run head ts pages ps → EndRefused run tx room e
+
+-- THE NEWEST pending update of a transaction, 0 for none
+abbrev pub IsNewest : Head → List TransactionEntry → List PendingEntry → (tx lsn : ℕ) → Type 0
+IsNewest head ts ps tx lsn =
+    (base : BasePages) (run : Run) (pages : List PageEntry) → IsJournal base run head ts pages ps → lsn ≡ newest_of (pending_lsns tx (log_of run))
+
+-- a transaction may be undone
+abbrev pub MayUndo : Head → List TransactionEntry → List PendingEntry → (tx : ℕ) → Type 0
+MayUndo head ts ps tx = (base : BasePages) (run : Run) (pages : List PageEntry) → IsJournal base run head ts pages ps → CanUndo run tx
+
+-- it has no more pending updates than the head counts
+abbrev pub HasFewPending : Head → List TransactionEntry → List PendingEntry → (tx : ℕ) → Type 0
+HasFewPending head ts ps tx =
+    (base : BasePages) (run : Run) (pages : List PageEntry) → IsJournal base run head ts pages ps → length (pending_lsns tx (log_of run)) ≤ head.pending
+
+abbrev pub RefusesNewest : Head → List TransactionEntry → List PendingEntry → (tx : ℕ) → Refusal → Type 0
+RefusesNewest head ts ps tx e = (base : BasePages) (run : Run) (pages : List PageEntry) → IsJournal base run head ts pages ps → StepRefused NotPrepared run tx e
+
+-- THE HOLDER of a cell
+abbrev pub NamesHolder : Head → List TransactionEntry → List PageEntry → (page slot : ℕ) → Option ℕ → Type 0
+NamesHolder head ts pages page slot holder = (base : BasePages) (run : Run) (ps : List PendingEntry) → IsJournal base run head ts pages ps → IsHolder run page slot holder
+
+abbrev pub RefusesHolder : Head → List TransactionEntry → List PageEntry → (page slot : ℕ) → Refusal → Type 0
+RefusesHolder head ts pages page slot e = (base : BasePages) (run : Run) (ps : List PendingEntry) → IsJournal base run head ts pages ps → CellMissing (count_of run) page slot e
+
+-- CHECKPOINT. Its records, with true tables, are appended, and their frames are at the front of the buffer
+abbrev pub Takes : (before after : Head) → List TransactionEntry → List PageEntry → (out_before out_after : List ℕ) → (size : ℕ) → Type 0
+Takes before after ts pages out_before out_after size = (base : BasePages) (run : Run) (ps : List PendingEntry) → IsJournal base run before ts pages ps
+    → (entries : List TableEntry) × (dirty : List (ℕ × ℕ)) × AreTrueTables base (appended run CheckpointBegin) (before.last + 1) entries dirty
+    × IsJournal base (run_taken run (before.last + 1) entries dirty) after ts pages ps
+    × Begins (checkpoint_text (before.last + 1) entries dirty) out_before out_after
+    × (size ≡ length (checkpoint_text (before.last + 1) entries dirty))
+
+abbrev pub RefusesCheckpoint : Head → List TransactionEntry → List PageEntry → (room : ℕ) → Refusal → Type 0
+RefusesCheckpoint head ts pages room e = (base : BasePages) (run : Run) (ps : List PendingEntry) → IsJournal base run head ts pages ps → CheckpointRefused base run head room e
+
+-- THE LOG is reported: the head is still that of the journal of the run
+abbrev pub StaysHead : (before after : Head) → Type 0
+StaysHead before after =
+    (base : BasePages) (run : Run) (ts : List TransactionEntry) (pages : List PageEntry) (ps : List PendingEntry) → IsJournal base run before ts pages ps → IsJournal base run after ts pages ps
+
+abbrev pub RefusesLogWritten : Head → (lsn : ℕ) → Refusal → Type 0
+RefusesLogWritten head lsn e =
+    (base : BasePages) (run : Run) (ts : List TransactionEntry) (pages : List PageEntry) (ps : List PendingEntry) → IsJournal base run head ts pages ps → LogWrittenRefused run lsn e
+
+-- A PAGE: the log is known to be on the disk up to its PageLSN (write-ahead)
+abbrev pub IsLogAhead : Head → List PageEntry → (page : ℕ) → Type 0
+IsLogAhead head pages page = (base : BasePages) (run : Run) (ts : List TransactionEntry) (ps : List PendingEntry) → IsJournal base run head ts pages ps
+    → (page < count_of run) × (last_on base page (log_of run) ≤ head.written)
+
+abbrev pub RefusesPageToWrite : Head → List PageEntry → (page : ℕ) → Refusal → Type 0
+RefusesPageToWrite head pages page e = (base : BasePages) (run : Run) (ts : List TransactionEntry) (ps : List PendingEntry) → IsJournal base run head ts pages ps
+    → PageToWriteRefused base run head.written page e
+
+-- its image with this PageLSN is reported: the pages are those of the journal of the run with the report
+abbrev pub Reports : (before after : List PageEntry) → (page lsn : ℕ) → Type 0
+Reports before after page lsn =
+    (base : BasePages) (run : Run) (head : Head) (ts : List TransactionEntry) (ps : List PendingEntry) → IsJournal base run head ts before ps → IsJournal base (reported run page lsn) head ts after ps
+
+abbrev pub RefusesReport : List PageEntry → (page lsn : ℕ) → Refusal → Type 0
+RefusesReport pages page lsn e =
+    (base : BasePages) (run : Run) (head : Head) (ts : List TransactionEntry) (ps : List PendingEntry) → IsJournal base run head ts pages ps → ReportRefused base run page lsn e
