@@ -1,6 +1,5 @@
 -- What an operation over arrays leaves, and why it is refused, for each run of which the arrays are the journal (own).
 use Rattle.std.specs.Prelude.{◌≡◌, ◌≤◌, ◌<◌, ◌+◌, ℕ, List, Option, length, take}
-use Rattle.std.specs.Borrow.{MutBor}
 use Rattle.log_laws.specs.Records.{LogRecord, PlainRecord, End, TableEntry, CheckpointBegin}
 use Rattle.log_laws.specs.Meaning.{BasePages, last_on, pending as pending_lsns}
 use Rattle.wal.specs.Spelling.{frame}
@@ -9,11 +8,11 @@ use Rattle.journal.specs.declared.refusal.Refusal.{Refusal}
 use Rattle.journal.specs.declared.table.Need.{Need}
 use Rattle.journal.specs.declared.table.Need.TheVariants.{NotPrepared}
 use Rattle.journal.specs.declared.image.Image.{Image}
+use Rattle.journal.specs.declared.framing.TheConstants.{LONGEST_CHANGE, LONGEST_UNDO}
 use Rattle.journal.specs.declared.entries.Head.{Head}
 use Rattle.journal.specs.declared.entries.TransactionEntry.{TransactionEntry}
 use Rattle.journal.specs.declared.entries.PageEntry.{PageEntry}
 use Rattle.journal.specs.declared.entries.PendingEntry.{PendingEntry}
-use Rattle.journal.specs.declared.entries.Arrays.{Arrays}
 use Rattle.journal.specs.Runs.{Run, appended, reported, count_of, log_of, AreTrueTables}
 use Rattle.journal.specs.Rollbacks.{newest_of, CanUndo}
 use Rattle.journal.specs.Holders.{IsHolder}
@@ -30,16 +29,22 @@ pub record Held : Type 0 where
   pub pages : List PageEntry
   pub pending : List PendingEntry
 
--- before the call
-abbrev pub given : Arrays → Held
-given a = record { head = a.head.now; transactions = a.transactions.now; pages = a.pages.now; pending = a.pending.now }
+abbrev pub arrays : Head → List TransactionEntry → List PageEntry → List PendingEntry → Held
+arrays head ts pages ps = record { head = head; transactions = ts; pages = pages; pending = ps }
 
--- after the call
-abbrev pub left : MutBor Head × (MutBor (List TransactionEntry) × (MutBor (List PageEntry) × (MutBor (List PendingEntry) × Unit {0}))) → Held
-left a = record { head = a.0.now; transactions = a.1.0.now; pages = a.1.1.0.now; pending = a.1.1.1.0.now }
-
+-- they are the journal of this run
 abbrev pub IsJournalOf : BasePages → Run → Held → Type 0
 IsJournalOf base run a = IsJournal base run a.head a.transactions a.pages a.pending
+
+-- what is kept of each transaction but this one is as it was
+abbrev pub LeavesOthersOf : (tx : ℕ) → (before after : Held) → Type 0
+LeavesOthersOf tx before after = LeavesOthers tx (take before.head.transactions before.transactions) (take before.head.pending before.pending)
+    (take after.head.transactions after.transactions) (take after.head.pending after.pending)
+
+-- at least one record fewer is owed than before
+abbrev pub OwesLessThan : (before after : Held) → Type 0
+OwesLessThan before after = OwesLess (take before.head.transactions before.transactions) (take before.head.pending before.pending)
+    (take after.head.transactions after.transactions) (take after.head.pending after.pending)
 
 -- A REFUSAL leaves the arrays and the buffer as they were
 pub record AreSame (before after : Held) (out_before out_after : List ℕ) : Type 0 where
@@ -60,36 +65,30 @@ pub record LeavesRest (before after : Head) : Type 0 where
   pub written : after.written ≡ before.written
   pub next : after.next ≡ before.next
 
--- UPDATE. It is appended
-abbrev pub Updates : (before after : Held) → (tx page slot : ℕ) → Image → Type 0
-Updates before after tx page slot m =
-    (base : BasePages) (run : Run) → IsJournalOf base run before → IsJournalOf base (appended run (update_by base run tx page slot (image_of m))) after
-
--- its frame is at the front of the buffer
-abbrev pub WritesUpdate : Held → (tx page slot : ℕ) → Image → (out_before out_after : List ℕ) → (size : ℕ) → Type 0
-WritesUpdate before tx page slot m out_before out_after size = (base : BasePages) (run : Run) → IsJournalOf base run before
-    → IsWritten (update_by base run tx page slot (image_of m)) (before.head.last + 1) out_before out_after size
-
--- what is kept of each transaction but this one is as it was
-abbrev pub OthersStayIn : (before after : Held) → (tx : ℕ) → Type 0
-OthersStayIn before after tx = (base : BasePages) (run : Run) → IsJournalOf base run before
-    → LeavesOthers tx (take before.head.transactions before.transactions) (take before.head.pending before.pending)
-    (take after.head.transactions after.transactions) (take after.head.pending after.pending)
+-- UPDATE. What one that is accepted leaves, for an image m in this cell
+pub record Updates (before after : Held) (tx page slot : ℕ) (m : Image) (out_before out_after : List ℕ) (size : ℕ) : Type 0 where
+  pub journal : (base : BasePages) (run : Run) → IsJournalOf base run before → IsJournalOf base (appended run (update_by base run tx page slot (image_of m))) after
+  pub written : (base : BasePages) (run : Run) → IsJournalOf base run before → IsWritten (update_by base run tx page slot (image_of m)) (before.head.last + 1) out_before out_after size
+  pub others : (base : BasePages) (run : Run) → IsJournalOf base run before → LeavesOthersOf tx before after
+  pub lsn : after.head.last ≡ before.head.last + 1
+  pub pending : after.head.pending ≤ length before.pending
+  pub fits : size ≤ length out_before
+  pub short : size ≤ LONGEST_CHANGE
 
 -- why it is refused, if the buffer has this many bytes
 abbrev pub RefusesUpdate : Held → (tx page slot : ℕ) → Image → (room : ℕ) → Refusal → Type 0
 RefusesUpdate before tx page slot m room e = (base : BasePages) (run : Run) → IsJournalOf base run before
     → UpdateRefused run tx page slot m (length (frame (update_by base run tx page slot (image_of m)) (before.head.last + 1))) room before.head before.transactions before.pending e
 
--- UNDO. A CLR of the newest pending update is appended, and its frame is at the front of the buffer
-abbrev pub Undoes : (before after : Held) → (tx : ℕ) → (out_before out_after : List ℕ) → (size : ℕ) → Type 0
-Undoes before after tx out_before out_after size = (base : BasePages) (run : Run) → IsJournalOf base run before
-    → (r : LogRecord) × IsUndo run tx r × IsJournalOf base (appended run r) after × IsWritten r (before.head.last + 1) out_before out_after size
-
-abbrev pub LessIsOwedIn : (before after : Held) → Type 0
-LessIsOwedIn before after = (base : BasePages) (run : Run) → IsJournalOf base run before
-    → OwesLess (take before.head.transactions before.transactions) (take before.head.pending before.pending)
-    (take after.head.transactions after.transactions) (take after.head.pending after.pending)
+-- UNDO. What one that is accepted leaves: a CLR of the newest pending update is appended, and its frame is at the front of the buffer
+pub record Undoes (before after : Held) (tx : ℕ) (out_before out_after : List ℕ) (size : ℕ) : Type 0 where
+  pub journal : (base : BasePages) (run : Run) → IsJournalOf base run before
+      → (r : LogRecord) × IsUndo run tx r × IsJournalOf base (appended run r) after × IsWritten r (before.head.last + 1) out_before out_after size
+  pub others : (base : BasePages) (run : Run) → IsJournalOf base run before → LeavesOthersOf tx before after
+  pub owes : (base : BasePages) (run : Run) → IsJournalOf base run before → OwesLessThan before after
+  pub lsn : after.head.last ≡ before.head.last + 1
+  pub fits : size ≤ length out_before
+  pub short : size ≤ LONGEST_UNDO
 
 abbrev pub RefusesUndo : Held → (tx room : ℕ) → Refusal → Type 0
 RefusesUndo before tx room e = (base : BasePages) (run : Run) → IsJournalOf base run before → UndoRefused run tx room e

@@ -27,18 +27,6 @@ pub struct Head {
     pub next: u32,
 }
 
-/// The arrays of a journal, lent for one call. The head says how many entries are in use.
-pub struct Arrays<'a> {
-    /// What the journal keeps besides its arrays.
-    pub head: &'a mut Head,
-    /// The transactions that have begun and not finished come first.
-    pub transactions: &'a mut [TransactionEntry],
-    /// Each page of the store.
-    pub pages: &'a mut [PageEntry],
-    /// The pending updates come first.
-    pub pending: &'a mut [PendingEntry],
-}
-
 /// A transaction that has begun and not finished. The entries are in ascending order of number.
 #[repr(C)]
 #[derive(Clone, Copy)]

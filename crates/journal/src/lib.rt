@@ -42,7 +42,7 @@ mod table;
 pub use beginning::{begin, cancel};
 pub use checkpoints::checkpoint;
 pub use disk::{log_written, page_to_write, page_written};
-pub use entries::{Arrays, Head, PageEntry, PageImage, PendingEntry, TransactionEntry};
+pub use entries::{Head, PageEntry, PageImage, PendingEntry, TransactionEntry};
 pub use framing::{compensation_size, put_compensation, put_update, update_size};
 pub use image::Image;
 pub use laws::{

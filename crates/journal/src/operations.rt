@@ -21,9 +21,9 @@ ghost use Rattle.journal.specs.Refusals.{IsNotRoom, StepRefused, RefusedFor, Pre
 ghost use Rattle.journal.specs.Transactions.{IsFreeFor};
 ghost use Rattle.journal.specs.Holders.{IsHolder};
 ghost use Rattle.journal.specs.State.{OthersStay};
-ghost use Rattle.journal.specs.Outcomes.{given, left, AreSame, TableIsSame, LeavesRest, Updates, WritesUpdate, OthersStayIn, RefusesUpdate, Undoes, LessIsOwedIn, RefusesUndo, Logs, Writes, LessIsOwed, Refuses, RefusesPrepare, LogsEnd, WritesEnd, LessIsOwedBy, RefusesEnd, IsNewest, MayUndo, HasFewPending, RefusesNewest, NamesHolder, RefusesHolder};
+ghost use Rattle.journal.specs.Outcomes.{arrays, AreSame, TableIsSame, LeavesRest, Updates, RefusesUpdate, Undoes, RefusesUndo, Logs, Writes, LessIsOwed, Refuses, RefusesPrepare, LogsEnd, WritesEnd, LessIsOwedBy, RefusesEnd, IsNewest, MayUndo, HasFewPending, RefusesNewest, NamesHolder, RefusesHolder};
 
-use crate::entries::{Arrays, Head, PageEntry, PendingEntry, TransactionEntry};
+use crate::entries::{Head, PageEntry, PendingEntry, TransactionEntry};
 use crate::framing::{compensation_size, put_compensation, put_plain, put_update, update_size};
 use crate::image::Image;
 use crate::page_entry::{change_cell, is_cell};
@@ -187,34 +187,26 @@ pub fn holder(
 /// - NoFrameRoom: `out` is shorter than the frame, which takes this many bytes.
 /// - NoPendingRoom: the array of pending updates is full, and each of them may still be undone.
 pub fn update(
-    arrays: Arrays<'_>,
+    head: &mut Head,
+    transactions: &mut [TransactionEntry],
+    pages: &mut [PageEntry],
+    pending: &mut [PendingEntry],
     tx: u32,
     page: u32,
     slot: u8,
     after: &Image,
     out: &mut [u8],
 ) -> Result<usize, Refusal>
-    ensures ok { OnOk result (Updates (given arrays.entry) (left arrays.exit) tx page slot after.now) }
-    ensures written { IfOk result
-        (WritesUpdate (given arrays.entry) tx page slot after.now out.old out.new) }
-    ensures others { OnOk result (OthersStayIn (given arrays.entry) (left arrays.exit) tx) }
-    ensures size { IfOk result (λ size. size ≤ length out.old) }
-    ensures short { IfOk result (λ size. size ≤ LONGEST_CHANGE) }
+    ensures ok { IfOk result (Updates (arrays head.old transactions.old pages.old pending.old)
+        (arrays head.new transactions.new pages.new pending.new) tx page slot after.now out.old out.new) }
+    ensures rest { LeavesRest head.old head.new }
+    ensures count { head.new.transactions ≡ head.old.transactions }
     ensures enough { LONGEST_CHANGE ≤ length out.old → IfErr result IsNotRoom }
-    ensures count { arrays.exit.0.now.transactions ≡ arrays.entry.head.now.transactions }
-    ensures updates { OnOk result (arrays.exit.0.now.pending ≤ length arrays.entry.pending.now) }
-    ensures lsn { OnOk result (arrays.exit.0.now.last ≡ arrays.entry.head.now.last + 1) }
-    ensures rest { LeavesRest arrays.entry.head.now arrays.exit.0.now }
-    ensures same { OnErr result (AreSame (given arrays.entry) (left arrays.exit) out.old out.new) }
-    ensures refused { IfErr result
-        (RefusesUpdate (given arrays.entry) tx page slot after.now (length out.old)) }
+    ensures same { OnErr result (AreSame (arrays head.old transactions.old pages.old pending.old)
+        (arrays head.new transactions.new pages.new pending.new) out.old out.new) }
+    ensures refused { IfErr result (RefusesUpdate (arrays head.old transactions.old pages.old pending.old)
+        tx page slot after.now (length out.old)) }
 {
-    let Arrays {
-        head,
-        transactions,
-        pages,
-        pending,
-    } = arrays;
     if !after.is_valid() {
         return Err(Refusal::BadImage);
     }
@@ -254,26 +246,25 @@ pub fn update(
 /// - NothingToUndo: the transaction has no pending update.
 /// - NoFrameRoom: `out` is shorter than the frame, which takes this many bytes.
 /// - BadArrays, LogFull: the arrays are not those of a journal.
-pub fn undo(arrays: Arrays<'_>, tx: u32, out: &mut [u8]) -> Result<usize, Refusal>
-    ensures ok { IfOk result (Undoes (given arrays.entry) (left arrays.exit) tx out.old out.new) }
-    ensures others { OnOk result (OthersStayIn (given arrays.entry) (left arrays.exit) tx) }
-    ensures owes { OnOk result (LessIsOwedIn (given arrays.entry) (left arrays.exit)) }
-    ensures size { IfOk result (λ size. size ≤ length out.old) }
-    ensures short { IfOk result (λ size. size ≤ LONGEST_UNDO) }
+pub fn undo(
+    head: &mut Head,
+    transactions: &mut [TransactionEntry],
+    pages: &mut [PageEntry],
+    pending: &mut [PendingEntry],
+    tx: u32,
+    out: &mut [u8],
+) -> Result<usize, Refusal>
+    ensures ok { IfOk result (Undoes (arrays head.old transactions.old pages.old pending.old)
+        (arrays head.new transactions.new pages.new pending.new) tx out.old out.new) }
+    ensures rest { LeavesRest head.old head.new }
+    ensures count { head.new.transactions ≡ head.old.transactions }
+    ensures updates { head.new.pending ≡ head.old.pending }
     ensures enough { LONGEST_UNDO ≤ length out.old → IfErr result IsNotRoom }
-    ensures count { arrays.exit.0.now.transactions ≡ arrays.entry.head.now.transactions }
-    ensures updates { arrays.exit.0.now.pending ≡ arrays.entry.head.now.pending }
-    ensures lsn { OnOk result (arrays.exit.0.now.last ≡ arrays.entry.head.now.last + 1) }
-    ensures rest { LeavesRest arrays.entry.head.now arrays.exit.0.now }
-    ensures same { OnErr result (AreSame (given arrays.entry) (left arrays.exit) out.old out.new) }
-    ensures refused { IfErr result (RefusesUndo (given arrays.entry) tx (length out.old)) }
+    ensures same { OnErr result (AreSame (arrays head.old transactions.old pages.old pending.old)
+        (arrays head.new transactions.new pages.new pending.new) out.old out.new) }
+    ensures refused { IfErr result (RefusesUndo (arrays head.old transactions.old pages.old pending.old)
+        tx (length out.old)) }
 {
-    let Arrays {
-        head,
-        transactions,
-        pages,
-        pending,
-    } = arrays;
     let count = used(head.transactions, transactions.len())?;
     let _count = used(head.pending, pending.len())?;
     let entries = &transactions[..count];

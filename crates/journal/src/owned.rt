@@ -14,7 +14,7 @@ ghost use Rattle.journal.specs.Refusals.{StepRefused, OwnBeginRefused, OwnPrepar
 ghost use Rattle.journal.specs.JournalState.{Appends, StaysKept, StaysSame, LeavesRest, OthersStay, HasBegun, IsGone, HasNoRecord, known_up_to, Undoes, TakesCheckpoint, RollsBackTo, RollsBackAll, Refuses, RefusesHolder, RefusesPageToWrite, RefusesReport, RefusesCancel, RefusesUpdate, RefusesOpenWith, RefusesOpen, IsNew, ContinuesLog, ShowsPage, IsLogAhead, Reports, NamesHolder, IsNewest, MayUndo, HasFewPending};
 
 use crate::checkpoints::LONGEST_CHECKPOINT;
-use crate::entries::{Arrays, Head, PageEntry, PendingEntry, TransactionEntry};
+use crate::entries::{Head, PageEntry, PendingEntry, TransactionEntry};
 use crate::framing::{LONGEST_CHANGE, LONGEST_UNDO};
 use crate::image::Image;
 use crate::refusal::Refusal;
@@ -442,15 +442,17 @@ impl Journal {
             LONGEST_CHANGE,
             self.pending.len(),
         )?;
-        let arrays = Arrays {
-            head: &mut self.head,
-            transactions: &mut self.transactions,
-            pages: &mut self.pages,
-            pending: &mut self.pending,
-        };
-        let image = Image::of(&after);
-        let out = &mut self.buffer[self.length..];
-        let size = operations::update(arrays, tx, page, slot, &image, out)?;
+        let size = operations::update(
+            &mut self.head,
+            &mut self.transactions,
+            &mut self.pages,
+            &mut self.pending,
+            tx,
+            page,
+            slot,
+            &Image::of(&after),
+            &mut self.buffer[self.length..],
+        )?;
         self.needed = needed_after(self.needed, was_full, self.head.pending);
         self.length += size;
         self.reserved = rollback;
@@ -472,13 +474,14 @@ impl Journal {
         ensures kept { OnErr result (self.new ≡ self.old) }
         ensures refused { IfErr result (Refuses self.old (λ run. OwnUndoRefused run tx)) }
     {
-        let arrays = Arrays {
-            head: &mut self.head,
-            transactions: &mut self.transactions,
-            pages: &mut self.pages,
-            pending: &mut self.pending,
-        };
-        let size = operations::undo(arrays, tx, &mut self.buffer[self.length..])?;
+        let size = operations::undo(
+            &mut self.head,
+            &mut self.transactions,
+            &mut self.pages,
+            &mut self.pending,
+            tx,
+            &mut self.buffer[self.length..],
+        )?;
         self.length += size;
         self.reserved = self.reserved.saturating_sub(size);
         Ok(self.head.last)
