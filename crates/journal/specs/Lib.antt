@@ -19,3 +19,4 @@ pub mod JournalState
 pub mod Owned
 pub mod Rollbacks
 pub mod Outcomes
+pub mod Steps

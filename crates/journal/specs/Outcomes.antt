@@ -1,6 +1,9 @@
 -- What an operation over arrays leaves, and why it is refused, for each run of which the arrays are the journal (own).
 use Rattle.std.specs.Prelude.{◌≡◌, ◌≤◌, ◌<◌, ◌+◌, ℕ, List, Option, length, take}
-use Rattle.log_laws.specs.Records.{LogRecord, PlainRecord, End, TableEntry, CheckpointBegin}
+use Rattle.page.specs.Store.{StoreContent}
+use Rattle.log_laws.specs.declared.start.LogStart.{LogStart}
+use Rattle.log_laws.specs.Pages.{base_pages}
+use Rattle.log_laws.specs.Records.{LogRecord, PlainRecord, End, TableEntry, CheckpointBegin, LogContent}
 use Rattle.log_laws.specs.Meaning.{BasePages, last_on, pending as pending_lsns}
 use Rattle.wal.specs.Spelling.{frame}
 use Rattle.wal.specs.declared.sizes.TheConstants.{PLAIN_FRAME}
@@ -13,7 +16,8 @@ use Rattle.journal.specs.declared.entries.Head.{Head}
 use Rattle.journal.specs.declared.entries.TransactionEntry.{TransactionEntry}
 use Rattle.journal.specs.declared.entries.PageEntry.{PageEntry}
 use Rattle.journal.specs.declared.entries.PendingEntry.{PendingEntry}
-use Rattle.journal.specs.Runs.{Run, appended, reported, count_of, log_of, AreTrueTables}
+use Rattle.journal.specs.Runs.{Run, appended, reported, opened, empty_log, MayOpen, count_of, log_of, AreTrueTables}
+use Rattle.journal.specs.Opened.{OpenRefused}
 use Rattle.journal.specs.Rollbacks.{newest_of, CanUndo}
 use Rattle.journal.specs.Holders.{IsHolder}
 use Rattle.journal.specs.Arrays.{image_of, kept_of, LeavesOthers, OwesLess}
@@ -213,3 +217,15 @@ Reports before after page lsn =
 abbrev pub RefusesReport : List PageEntry → (page lsn : ℕ) → Refusal → Type 0
 RefusesReport pages page lsn e =
     (base : BasePages) (run : Run) (head : Head) (ts : List TransactionEntry) (ps : List PendingEntry) → IsJournal base run head ts pages ps → ReportRefused base run page lsn e
+
+-- OPENING. With any other arrays, the pages are those of the journal of a new log over a store
+abbrev pub BeginsJournal : LogStart → StoreContent → List PageEntry → Head → Type 0
+BeginsJournal begins store pages head =
+    (ts : List TransactionEntry) (ps : List PendingEntry) → IsJournal (base_pages store.pages) (opened (empty_log begins) store) head ts pages ps
+
+-- the arrays are the journal that continues a log over a store, if a journal may
+abbrev pub ContinuesIn : LogContent → StoreContent → List TransactionEntry → List PageEntry → List PendingEntry → Head → Type 0
+ContinuesIn log store ts pages ps head = (base : BasePages) → MayOpen base log store → IsJournal base (opened log store) head ts pages ps
+
+abbrev pub RefusesOpen : LogContent → StoreContent → List TransactionEntry → List PageEntry → List PendingEntry → Refusal → Type 0
+RefusesOpen log store ts pages ps e = (base : BasePages) → MayOpen base log store → OpenRefused log store (length ts) (length pages) (length ps) e

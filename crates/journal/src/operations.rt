@@ -1,26 +1,16 @@
 //! The operations of transactions that have begun. Each changes its own transaction alone. It leaves
 //! the LSN up to which the log is known to be on the disk, and the number of the next transaction.
 
-ghost use Rattle.std.specs.Prelude.{◌≡◌, ◌≢◌, ◌<◌, ◌≤◌, ◌+◌, ◌*◌, ◌^◌, ℕ, true, false, is_some, List, None, IfSome, IfOk, OnOk, OnErr, IfErr, IsOkUnless, length, slice_index_or, map, take};
+ghost use Rattle.std.specs.Prelude.{◌≡◌, ◌<◌, ◌≤◌, ◌+◌, ◌*◌, ◌^◌, true, false, None, IfSome, IfOk, OnOk, OnErr, IfErr, IsOkUnless, length};
 ghost use Rattle.page.specs.declared.profile.TheConstants.{SLOTS};
 ghost use Rattle.wal.specs.declared.sizes.TheConstants.{PLAIN_FRAME};
-ghost use Rattle.log_laws.specs.Records.{LogRecord, Commit, Abort, End, Prepare};
-ghost use Rattle.log_laws.specs.Meaning.{BasePages, pending as pending_lsns};
-ghost use Rattle.wal.specs.Spelling.{frame};
+ghost use Rattle.log_laws.specs.Records.{Commit, Abort, Prepare};
 ghost use Rattle.journal.specs.declared.refusal.Refusal.TheVariants.{LogFull, NoFrameRoom};
 ghost use Rattle.journal.specs.declared.table.Need.TheVariants.{Working, NotAborting, NotPrepared};
-ghost use Rattle.journal.specs.declared.entries.PendingEntry.{PendingEntry};
-ghost use Rattle.journal.specs.declared.entries.PageEntry.{PageEntry};
-ghost use Rattle.journal.specs.Runs.{Run, appended, count_of, log_of};
-ghost use Rattle.journal.specs.Rollbacks.{newest_of, CanUndo};
-ghost use Rattle.journal.specs.PageStates.{PageState};
-ghost use Rattle.journal.specs.Arrays.{image_of, page_state_of, unless_0, kept_of, LeavesOthers, IsTable, OwesLess};
-ghost use Rattle.journal.specs.Writing.{IsWritten};
 ghost use Rattle.journal.specs.declared.framing.TheConstants.{LONGEST_CHANGE, LONGEST_UNDO};
-ghost use Rattle.journal.specs.Refusals.{IsNotRoom, StepRefused, RefusedFor, PrepareRefused, UpdateRefused, UndoRefused, EndRefused, CellMissing, CellRefused};
-ghost use Rattle.journal.specs.Transactions.{IsFreeFor};
-ghost use Rattle.journal.specs.Holders.{IsHolder};
+ghost use Rattle.journal.specs.Refusals.{IsNotRoom, CellMissing};
 ghost use Rattle.journal.specs.State.{OthersStay};
+ghost use Rattle.journal.specs.Steps.{IsOther, IsNoOther, ShowsImage, ShowsWriter, IsFreeCell, RefusesCell};
 ghost use Rattle.journal.specs.Outcomes.{arrays, AreSame, TableIsSame, LeavesRest, Updates, RefusesUpdate, Undoes, RefusesUndo, Logs, Writes, LessIsOwed, Refuses, RefusesPrepare, LogsEnd, WritesEnd, LessIsOwedBy, RefusesEnd, IsNewest, MayUndo, HasFewPending, RefusesNewest, NamesHolder, RefusesHolder};
 
 use crate::entries::{Head, PageEntry, PendingEntry, TransactionEntry};
@@ -86,10 +76,8 @@ pub fn room_for(frame: &[u8], size: usize) -> Result<(), Refusal>
 
 /// Whether the last writer of a cell, 0 for none, is another unfinished transaction.
 fn is_other(entries: &[TransactionEntry], writer: u32, tx: u32) -> bool
-    ensures held { result ≡ true → (ps : List PendingEntry) → IsTable entries.now
-        → (0 < writer) × (writer ≢ tx) × (is_some (kept_of entries.now ps writer) ≡ true) }
-    ensures free { result ≡ false → (ps : List PendingEntry) → IsTable entries.now
-        → IsFreeFor (kept_of entries.now ps) (unless_0 writer) tx }
+    ensures held { result ≡ true → IsOther entries.now writer tx }
+    ensures free { result ≡ false → IsNoOther entries.now writer tx }
 {
     if writer == 0 || writer == tx {
         return false;
@@ -102,10 +90,8 @@ fn is_other(entries: &[TransactionEntry], writer: u32, tx: u32) -> bool
 fn cell_at<'a>(pages: &'a [PageEntry], page: u32, slot: u8) -> Result<(&'a Image, u32), Refusal>
     ensures page { OnOk result (page < length pages.now) }
     ensures slot { OnOk result (slot < SLOTS) }
-    ensures value { IfOk result (λ c. (d : PageState) → image_of c.0.now
-        ≡ slice_index_or (slice_index_or (map page_state_of pages.now) page d).page.slots slot None) }
-    ensures writer { IfOk result (λ c. (d : PageState) → unless_0 c.1
-        ≡ slice_index_or (slice_index_or (map page_state_of pages.now) page d).writers slot None) }
+    ensures value { IfOk result (λ c. ShowsImage pages.now page slot c.0.now) }
+    ensures writer { IfOk result (λ c. ShowsWriter pages.now page slot c.1) }
     ensures err { IfErr result (CellMissing (length pages.now) page slot) }
 {
     if page as usize >= pages.len() {
@@ -128,14 +114,10 @@ fn value_for<'a>(
 ) -> Result<&'a Image, Refusal>
     ensures page { OnOk result (page < length pages.now) }
     ensures slot { OnOk result (slot < SLOTS) }
-    ensures value { IfOk result (λ v. (d : PageState) → image_of v.now
-        ≡ slice_index_or (slice_index_or (map page_state_of pages.now) page d).page.slots slot None) }
-    ensures free { OnOk result ((ps : List PendingEntry) (d : PageState) → IsTable entries.now
-        → IsFreeFor (kept_of entries.now ps)
-        (slice_index_or (slice_index_or (map page_state_of pages.now) page d).writers slot None) tx) }
+    ensures value { IfOk result (λ v. ShowsImage pages.now page slot v.now) }
+    ensures free { OnOk result (IsFreeCell pages.now entries.now tx page slot) }
     ensures kind { IfErr result IsNotRoom }
-    ensures err { IfErr result (λ e. (ps : List PendingEntry) → IsTable entries.now
-        → CellRefused (map page_state_of pages.now) (kept_of entries.now ps) tx page slot e) }
+    ensures err { IfErr result (RefusesCell pages.now entries.now tx page slot) }
 {
     let (image, writer) = cell_at(pages, page, slot)?;
     if is_other(entries, writer, tx) {

@@ -1,6 +1,6 @@
 //! `Journal`: a journal that owns its arrays, and keeps the frames until they are taken.
 
-ghost use Rattle.std.specs.Prelude.{◌≡◌, ◌≤◌, ◌+◌, ◌*◌, [], length, take, true, false, All, OnOk, OnErr, IfOk, IfErr, IfSome, None, IsOkUnless};
+ghost use Rattle.std.specs.Prelude.{◌≡◌, ◌≤◌, ◌<◌, ◌+◌, ◌*◌, [], length, take, true, false, All, OnOk, OnErr, IfOk, IfErr, IfSome, None, IsOkUnless};
 ghost use Rattle.page.specs.declared.profile.TheConstants.{TRANSACTIONS};
 ghost use Rattle.log_laws.specs.Records.{Commit, Abort, End, Prepare, lsn_before, last_lsn, history};
 ghost use Rattle.journal.specs.declared.refusal.Refusal.TheVariants.{NoResource, NoSuchLsn};
