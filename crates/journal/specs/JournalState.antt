@@ -15,6 +15,8 @@ use Rattle.journal.specs.declared.refusal.Refusal.{Refusal}
 use Rattle.journal.specs.Runs.{Run, appended, reported, opened, empty_log, MayOpen, count_of, log_before, content_of, log_of, AreTrueTables}
 use Rattle.journal.specs.PageStates.{IsCurrent}
 use Rattle.journal.specs.Holders.{IsHolder}
+use Rattle.journal.specs.declared.turns.Turn.{Turn}
+use Rattle.journal.specs.TurnsTaken.{turn_record, OwnTurnRefused}
 use Rattle.journal.specs.Opened.{OwnOpenRefused, OpenRefusedFor}
 use Rattle.journal.specs.Refusals.{CellMissing, CancelRefused, ReportRefused, PageToWriteRefused, OwnUpdateRefused}
 use Rattle.journal.specs.declared.framing.TheConstants.{LONGEST_UNDO}
@@ -92,6 +94,13 @@ HasNoRecord j tx = (base : BasePages) (run : Run) → Keeps base run j → has (
 -- THE LOG is known to be on the disk up to this LSN too, and all else is as it was.
 abbrev pub known_up_to : (lsn : ℕ) → JournalState → JournalState
 known_up_to lsn j = record j { head = with_written lsn j.head }
+
+-- TURN. A commit, an abort, an end or a prepare was appended
+abbrev pub AppendsTurn : (before after : JournalState) → Turn → (tx : ℕ) → Type 0
+AppendsTurn before after turn tx = Appends before after (λ base run. turn_record turn (plain_by run tx))
+
+abbrev pub RefusesTurn : JournalState → Turn → (tx : ℕ) → Refusal → Type 0
+RefusesTurn j turn tx e = (base : BasePages) (run : Run) → Keeps base run j → OwnTurnRefused turn run tx j.head e
 
 -- UNDO. The newest pending update of the transaction was undone by one CLR.
 abbrev pub Undoes : (before after : JournalState) → (tx : ℕ) → Type 0

@@ -20,3 +20,4 @@ pub mod Owned
 pub mod Rollbacks
 pub mod Outcomes
 pub mod Steps
+pub mod TurnsTaken

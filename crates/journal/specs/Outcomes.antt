@@ -97,7 +97,7 @@ pub record Undoes (before after : Held) (tx : ℕ) (out_before out_after : List 
 abbrev pub RefusesUndo : Held → (tx room : ℕ) → Refusal → Type 0
 RefusesUndo before tx room e = (base : BasePages) (run : Run) → IsJournalOf base run before → UndoRefused run tx room e
 
--- BEGIN, CANCEL, COMMIT, ABORT AND PREPARE, whatever the pages and the pending updates are. The journal of a run is still that of the run
+-- BEGIN AND CANCEL, whatever the pages and the pending updates are. The journal of a run is still that of the run
 abbrev pub StaysJournal : (before : Head) → List TransactionEntry → (after : Head) → List TransactionEntry → Type 0
 StaysJournal before ts after after_ts =
     (base : BasePages) (run : Run) (pages : List PageEntry) (ps : List PendingEntry) → IsJournal base run before ts pages ps → IsJournal base run after after_ts pages ps
@@ -111,50 +111,11 @@ RefusesCancel head ts tx e =
     (base : BasePages) (run : Run) (pages : List PageEntry) (ps : List PendingEntry) → IsJournal base run head ts pages ps
     → CancelRefused run (kept_of (take head.transactions ts) (take head.pending ps)) tx e
 
--- a commit, an abort or a prepare is appended
-abbrev pub Logs : (PlainRecord → LogRecord) → (before : Head) → List TransactionEntry → (after : Head) → List TransactionEntry → (tx : ℕ) → Type 0
-Logs kind before ts after after_ts tx =
-    (base : BasePages) (run : Run) (pages : List PageEntry) (ps : List PendingEntry) → IsJournal base run before ts pages ps
-    → IsJournal base (appended run (kind (plain_by run tx))) after after_ts pages ps
-
--- its frame is at the front of the buffer
-abbrev pub Writes : (PlainRecord → LogRecord) → Head → List TransactionEntry → (tx : ℕ) → (out_before out_after : List ℕ) → (size : ℕ) → Type 0
-Writes kind head ts tx out_before out_after size =
-    (base : BasePages) (run : Run) (pages : List PageEntry) (ps : List PendingEntry) → IsJournal base run head ts pages ps
-    → IsWritten (kind (plain_by run tx)) (head.last + 1) out_before out_after size
-
 -- at least one record fewer is owed than before
 abbrev pub LessIsOwed : (before : Head) → List TransactionEntry → (after : Head) → List TransactionEntry → Type 0
 LessIsOwed before ts after after_ts =
     (base : BasePages) (run : Run) (pages : List PageEntry) (ps : List PendingEntry) → IsJournal base run before ts pages ps
     → OwesLess (take before.transactions ts) (take before.pending ps) (take after.transactions after_ts) (take after.pending ps)
-
-abbrev pub Refuses : Need → Head → List TransactionEntry → (tx room : ℕ) → Refusal → Type 0
-Refuses need head ts tx room e =
-    (base : BasePages) (run : Run) (pages : List PageEntry) (ps : List PendingEntry) → IsJournal base run head ts pages ps → RefusedFor need run tx PLAIN_FRAME room e
-
-abbrev pub RefusesPrepare : Head → List TransactionEntry → (tx room : ℕ) → Refusal → Type 0
-RefusesPrepare head ts tx room e =
-    (base : BasePages) (run : Run) (pages : List PageEntry) (ps : List PendingEntry) → IsJournal base run head ts pages ps → PrepareRefused run tx head room e
-
--- END, whatever the pages are. It is appended
-abbrev pub LogsEnd : (before : Head) → List TransactionEntry → (after : Head) → List TransactionEntry → List PendingEntry → (tx : ℕ) → Type 0
-LogsEnd before ts after after_ts ps tx =
-    (base : BasePages) (run : Run) (pages : List PageEntry) → IsJournal base run before ts pages ps
-    → IsJournal base (appended run (End (plain_by run tx))) after after_ts pages ps
-
-abbrev pub WritesEnd : Head → List TransactionEntry → List PendingEntry → (tx : ℕ) → (out_before out_after : List ℕ) → (size : ℕ) → Type 0
-WritesEnd head ts ps tx out_before out_after size =
-    (base : BasePages) (run : Run) (pages : List PageEntry) → IsJournal base run head ts pages ps
-    → IsWritten (End (plain_by run tx)) (head.last + 1) out_before out_after size
-
-abbrev pub LessIsOwedBy : (before : Head) → List TransactionEntry → (after : Head) → List TransactionEntry → List PendingEntry → Type 0
-LessIsOwedBy before ts after after_ts ps =
-    (base : BasePages) (run : Run) (pages : List PageEntry) → IsJournal base run before ts pages ps
-    → OwesLess (take before.transactions ts) (take before.pending ps) (take after.transactions after_ts) (take after.pending ps)
-
-abbrev pub RefusesEnd : Head → List TransactionEntry → List PendingEntry → (tx room : ℕ) → Refusal → Type 0
-RefusesEnd head ts ps tx room e = (base : BasePages) (run : Run) (pages : List PageEntry) → IsJournal base run head ts pages ps → EndRefused run tx room e
 
 -- THE NEWEST pending update of a transaction, 0 for none
 abbrev pub IsNewest : Head → List TransactionEntry → List PendingEntry → (tx lsn : ℕ) → Type 0

@@ -1,29 +1,23 @@
-//! The operations of transactions that have begun. Each changes its own transaction alone. It leaves
+//! Updates and undo of transactions that have begun. Each changes its own transaction alone. It leaves
 //! the LSN up to which the log is known to be on the disk, and the number of the next transaction.
 
 ghost use Rattle.std.specs.Prelude.{◌≡◌, ◌<◌, ◌≤◌, ◌+◌, ◌*◌, ◌^◌, true, false, None, IfSome, IfOk, OnOk, OnErr, IfErr, IsOkUnless, length};
 ghost use Rattle.page.specs.declared.profile.TheConstants.{SLOTS};
-ghost use Rattle.wal.specs.declared.sizes.TheConstants.{PLAIN_FRAME};
-ghost use Rattle.log_laws.specs.Records.{Commit, Abort, Prepare};
 ghost use Rattle.journal.specs.declared.refusal.Refusal.TheVariants.{LogFull, NoFrameRoom};
-ghost use Rattle.journal.specs.declared.table.Need.TheVariants.{Working, NotAborting, NotPrepared};
 ghost use Rattle.journal.specs.declared.framing.TheConstants.{LONGEST_CHANGE, LONGEST_UNDO};
 ghost use Rattle.journal.specs.Refusals.{IsNotRoom, CellMissing};
-ghost use Rattle.journal.specs.State.{OthersStay};
 ghost use Rattle.journal.specs.Steps.{IsOther, IsNoOther, ShowsImage, ShowsWriter, IsFreeCell, RefusesCell};
-ghost use Rattle.journal.specs.Outcomes.{arrays, AreSame, TableIsSame, LeavesRest, Updates, RefusesUpdate, Undoes, RefusesUndo, Logs, Writes, LessIsOwed, Refuses, RefusesPrepare, LogsEnd, WritesEnd, LessIsOwedBy, RefusesEnd, IsNewest, MayUndo, HasFewPending, RefusesNewest, NamesHolder, RefusesHolder};
+ghost use Rattle.journal.specs.Outcomes.{arrays, AreSame, LeavesRest, Updates, RefusesUpdate, Undoes, RefusesUndo, IsNewest, MayUndo, HasFewPending, RefusesNewest, NamesHolder, RefusesHolder};
 
 use crate::entries::{Head, PageEntry, PendingEntry, TransactionEntry};
-use crate::framing::{compensation_size, put_compensation, put_plain, put_update, update_size};
+use crate::framing::{compensation_size, put_compensation, put_update, update_size};
 use crate::image::Image;
 use crate::page_entry::{change_cell, is_cell};
 use crate::refusal::Refusal;
 use crate::table::{
-    Need, bound, find, finish, newest, note_state, note_undo, note_update, place_for, room_for_one,
-    used,
+    Need, bound, find, newest, note_undo, note_update, place_for, room_for_one, used,
 };
 use page::SLOTS;
-use wal::PLAIN_FRAME;
 
 /// The LSN after this one. The only error is `LogFull`, if there is none.
 pub fn next_lsn(last: u64) -> Result<u64, Refusal>
@@ -276,187 +270,6 @@ pub fn undo(
     change_cell(pages, tx, undone.page, undone.slot, &undone.before, lsn);
     head.last = lsn;
     Ok(size)
-}
-
-/// An active or prepared transaction commits: appends a commit record, whose LSN is `head.last`
-/// after the call. Writes its frame to the front of `out`, and returns the frame's length, 25
-/// bytes. The transaction has finished, and its cells are free. It needs no end record. The commit
-/// is durable when the log is on the disk up to this LSN.
-///
-/// Refused, and nothing changes:
-/// - UnknownTransaction: no transaction with this number has begun and not finished.
-/// - Forbidden: the transaction is aborting.
-/// - NoFrameRoom: `out` has fewer than 25 bytes.
-/// - BadArrays, LogFull: the arrays are not those of a journal.
-pub fn commit(
-    head: &mut Head,
-    transactions: &mut [TransactionEntry],
-    tx: u32,
-    out: &mut [u8],
-) -> Result<usize, Refusal>
-    ensures ok { OnOk result (Logs Commit head.old transactions.old head.new transactions.new tx) }
-    ensures written { IfOk result (Writes Commit head.old transactions.old tx out.old out.new) }
-    ensures others { OnOk result (OthersStay head.old transactions.old head.new transactions.new tx) }
-    ensures owes { OnOk result (LessIsOwed head.old transactions.old head.new transactions.new) }
-    ensures size { IfOk result (λ size. size ≤ length out.old) }
-    ensures short { IfOk result (λ size. size ≡ PLAIN_FRAME) }
-    ensures enough { PLAIN_FRAME ≤ length out.old → IfErr result IsNotRoom }
-    ensures count { head.new.transactions ≤ head.old.transactions }
-    ensures updates { head.new.pending ≡ head.old.pending }
-    ensures lsn { OnOk result (head.new.last ≡ head.old.last + 1) }
-    ensures rest { LeavesRest head.old head.new }
-    ensures same { OnErr result
-        (TableIsSame head.old transactions.old out.old head.new transactions.new out.new) }
-    ensures refused { IfErr result
-        (Refuses NotAborting head.old transactions.old tx (length out.old)) }
-{
-    let count = used(head.transactions, transactions.len())?;
-    let place = place_for(&transactions[..count], tx, Need::NotAborting)?;
-    let lsn = next_lsn(head.last)?;
-    room_for(out, PLAIN_FRAME)?;
-    put_plain(out, lsn, 3, tx, transactions[place].last);
-    finish(transactions, place, count);
-    head.transactions = count - 1;
-    head.last = lsn;
-    Ok(PLAIN_FRAME)
-}
-
-/// An active or prepared transaction aborts: appends an abort record, whose LSN is `head.last`
-/// after the call. Writes its frame to the front of `out`, and returns the frame's length, 25
-/// bytes. From then on the transaction can only be undone and end. A prepared transaction has to
-/// abort before it is undone; an active one need not.
-///
-/// Refused, and nothing changes:
-/// - UnknownTransaction: no transaction with this number has begun and not finished.
-/// - Forbidden: the transaction is aborting already.
-/// - NoFrameRoom: `out` has fewer than 25 bytes.
-/// - BadArrays, LogFull: the arrays are not those of a journal.
-pub fn abort(
-    head: &mut Head,
-    transactions: &mut [TransactionEntry],
-    tx: u32,
-    out: &mut [u8],
-) -> Result<usize, Refusal>
-    ensures ok { OnOk result (Logs Abort head.old transactions.old head.new transactions.new tx) }
-    ensures written { IfOk result (Writes Abort head.old transactions.old tx out.old out.new) }
-    ensures others { OnOk result (OthersStay head.old transactions.old head.new transactions.new tx) }
-    ensures owes { OnOk result (LessIsOwed head.old transactions.old head.new transactions.new) }
-    ensures size { IfOk result (λ size. size ≤ length out.old) }
-    ensures short { IfOk result (λ size. size ≡ PLAIN_FRAME) }
-    ensures enough { PLAIN_FRAME ≤ length out.old → IfErr result IsNotRoom }
-    ensures count { head.new.transactions ≡ head.old.transactions }
-    ensures updates { head.new.pending ≡ head.old.pending }
-    ensures lsn { OnOk result (head.new.last ≡ head.old.last + 1) }
-    ensures rest { LeavesRest head.old head.new }
-    ensures same { OnErr result
-        (TableIsSame head.old transactions.old out.old head.new transactions.new out.new) }
-    ensures refused { IfErr result
-        (Refuses NotAborting head.old transactions.old tx (length out.old)) }
-{
-    let count = used(head.transactions, transactions.len())?;
-    let place = place_for(&transactions[..count], tx, Need::NotAborting)?;
-    let lsn = next_lsn(head.last)?;
-    room_for(out, PLAIN_FRAME)?;
-    put_plain(out, lsn, 4, tx, transactions[place].last);
-    note_state(transactions, place, 1, lsn);
-    head.last = lsn;
-    Ok(PLAIN_FRAME)
-}
-
-/// An active or aborting transaction without pending updates ends: appends an end record, whose LSN
-/// is `head.last` after the call. Writes its frame to the front of `out`, and returns the frame's
-/// length, 25 bytes. The transaction has finished, and its cells are free.
-///
-/// Refused, and nothing changes:
-/// - UnknownTransaction: no transaction with this number has begun and not finished.
-/// - Forbidden: the transaction is prepared.
-/// - StillPending: the transaction has pending updates.
-/// - NoFrameRoom: `out` has fewer than 25 bytes.
-/// - BadArrays, LogFull: the arrays are not those of a journal.
-pub fn end(
-    head: &mut Head,
-    transactions: &mut [TransactionEntry],
-    pending: &[PendingEntry],
-    tx: u32,
-    out: &mut [u8],
-) -> Result<usize, Refusal>
-    ensures ok { OnOk result
-        (LogsEnd head.old transactions.old head.new transactions.new pending.now tx) }
-    ensures written { IfOk result
-        (WritesEnd head.old transactions.old pending.now tx out.old out.new) }
-    ensures others { OnOk result (OthersStay head.old transactions.old head.new transactions.new tx) }
-    ensures owes { OnOk result
-        (LessIsOwedBy head.old transactions.old head.new transactions.new pending.now) }
-    ensures size { IfOk result (λ size. size ≤ length out.old) }
-    ensures short { IfOk result (λ size. size ≡ PLAIN_FRAME) }
-    ensures enough { PLAIN_FRAME ≤ length out.old → IfErr result IsNotRoom }
-    ensures count { head.new.transactions ≤ head.old.transactions }
-    ensures updates { head.new.pending ≡ head.old.pending }
-    ensures lsn { OnOk result (head.new.last ≡ head.old.last + 1) }
-    ensures rest { LeavesRest head.old head.new }
-    ensures same { OnErr result
-        (TableIsSame head.old transactions.old out.old head.new transactions.new out.new) }
-    ensures refused { IfErr result
-        (RefusesEnd head.old transactions.old pending.now tx (length out.old)) }
-{
-    let count = used(head.transactions, transactions.len())?;
-    let _count = used(head.pending, pending.len())?;
-    let place = place_for(&transactions[..count], tx, Need::NotPrepared)?;
-    let below = bound(transactions[place], head.pending);
-    if newest(&pending[..below], tx).is_some() {
-        return Err(Refusal::StillPending);
-    }
-    let lsn = next_lsn(head.last)?;
-    room_for(out, PLAIN_FRAME)?;
-    put_plain(out, lsn, 5, tx, transactions[place].last);
-    finish(transactions, place, count);
-    head.transactions = count - 1;
-    head.last = lsn;
-    Ok(PLAIN_FRAME)
-}
-
-/// An active transaction prepares to commit: appends a prepare record, whose LSN is `head.last`
-/// after the call. Writes its frame to the front of `out`, and returns the frame's length, 25
-/// bytes. From then on the transaction can only commit or abort, and holds its cells until it has
-/// finished. It is in doubt after a crash if the log is on the disk up to this LSN.
-///
-/// Refused, and nothing changes:
-/// - LogFull: too few LSNs are left for one more record and the rollback of all that may be
-///   unfinished.
-/// - BadArrays: the array is shorter than the head says.
-/// - UnknownTransaction: no transaction with this number has begun and not finished.
-/// - Forbidden: the transaction is aborting, or prepared already.
-/// - NoFrameRoom: `out` has fewer than 25 bytes.
-pub fn prepare(
-    head: &mut Head,
-    transactions: &mut [TransactionEntry],
-    tx: u32,
-    out: &mut [u8],
-) -> Result<usize, Refusal>
-    ensures ok { OnOk result (Logs Prepare head.old transactions.old head.new transactions.new tx) }
-    ensures written { IfOk result (Writes Prepare head.old transactions.old tx out.old out.new) }
-    ensures others { OnOk result (OthersStay head.old transactions.old head.new transactions.new tx) }
-    ensures size { IfOk result (λ size. size ≤ length out.old) }
-    ensures short { IfOk result (λ size. size ≡ PLAIN_FRAME) }
-    ensures enough { PLAIN_FRAME ≤ length out.old → IfErr result IsNotRoom }
-    ensures count { head.new.transactions ≡ head.old.transactions }
-    ensures updates { head.new.pending ≡ head.old.pending }
-    ensures lsn { OnOk result (head.new.last ≡ head.old.last + 1) }
-    ensures rest { LeavesRest head.old head.new }
-    ensures same { OnErr result
-        (TableIsSame head.old transactions.old out.old head.new transactions.new out.new) }
-    ensures refused { IfErr result
-        (RefusesPrepare head.old transactions.old tx (length out.old)) }
-{
-    let lsn = next_lsn(head.last)?;
-    let count = used(head.transactions, transactions.len())?;
-    reserve(head.last, 1, count, head.pending)?;
-    let place = place_for(&transactions[..count], tx, Need::Working)?;
-    room_for(out, PLAIN_FRAME)?;
-    put_plain(out, lsn, 8, tx, transactions[place].last);
-    note_state(transactions, place, 2, lsn);
-    head.last = lsn;
-    Ok(PLAIN_FRAME)
 }
 
 /// The LSN of the newest pending update of a transaction, 0 if it has none.

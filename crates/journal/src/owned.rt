@@ -10,8 +10,9 @@ ghost use Rattle.journal.specs.Arrays.{Reaches, IsNoted, BeginsAs, HasRoomFor};
 ghost use Rattle.journal.specs.State.{update_by, plain_by};
 ghost use Rattle.journal.specs.PageStates.{IsUpToDate};
 ghost use Rattle.journal.specs.Opened.{OwnNewRefused};
+ghost use Rattle.journal.specs.TurnsTaken.{is_owed};
 ghost use Rattle.journal.specs.Refusals.{StepRefused, OwnBeginRefused, OwnPrepareRefused, OwnUndoRefused, OwnEndRefused, OwnCheckpointRefused};
-ghost use Rattle.journal.specs.JournalState.{Appends, StaysKept, StaysSame, LeavesRest, OthersStay, HasBegun, IsGone, HasNoRecord, known_up_to, Undoes, TakesCheckpoint, RollsBackTo, RollsBackAll, Refuses, RefusesHolder, RefusesPageToWrite, RefusesReport, RefusesCancel, RefusesUpdate, RefusesOpenWith, RefusesOpen, IsNew, ContinuesLog, ShowsPage, IsLogAhead, Reports, NamesHolder, IsNewest, MayUndo, HasFewPending};
+ghost use Rattle.journal.specs.JournalState.{Appends, StaysKept, StaysSame, LeavesRest, OthersStay, HasBegun, IsGone, HasNoRecord, known_up_to, Undoes, TakesCheckpoint, RollsBackTo, RollsBackAll, AppendsTurn, RefusesTurn, Refuses, RefusesHolder, RefusesPageToWrite, RefusesReport, RefusesCancel, RefusesUpdate, RefusesOpenWith, RefusesOpen, IsNew, ContinuesLog, ShowsPage, IsLogAhead, Reports, NamesHolder, IsNewest, MayUndo, HasFewPending};
 
 use crate::checkpoints::LONGEST_CHECKPOINT;
 use crate::entries::{Head, PageEntry, PendingEntry, TransactionEntry};
@@ -19,7 +20,8 @@ use crate::framing::{LONGEST_CHANGE, LONGEST_UNDO};
 use crate::image::Image;
 use crate::refusal::Refusal;
 use crate::table::has_dead;
-use crate::{beginning, checkpoints, disk, opening, operations, reopening};
+use crate::turns::Turn;
+use crate::{beginning, checkpoints, disk, opening, operations, reopening, turns};
 use page::{Page, Store, TRANSACTIONS, Value};
 use std::alloc::Global;
 use std::marker::Model;
@@ -544,6 +546,30 @@ impl Journal {
         Ok(lsn)
     }
 
+    /// A transaction commits, aborts or ends: the record is appended, for whose frame room is set aside.
+    /// Returns its LSN. The errors are those of `commit`, `abort` and `end`.
+    fn take_turn(&mut self, turn: Turn, tx: u32) -> Result<u64, Refusal>
+        requires { is_owed turn ≡ true }
+        ensures ok { OnOk result (AppendsTurn self.old self.new turn tx) }
+        ensures lsn { IfOk result (λ lsn. lsn ≡ self.old.head.last + 1) }
+        ensures rest { LeavesRest self.old self.new }
+        ensures others { OnOk result (OthersStay self.old self.new tx) }
+        ensures kept { OnErr result (self.new ≡ self.old) }
+        ensures refused { IfErr result (RefusesTurn self.old turn tx) }
+    {
+        let size = turns::take_turn(
+            &mut self.head,
+            &mut self.transactions,
+            &self.pending,
+            turn,
+            tx,
+            &mut self.buffer[self.length..],
+        )?;
+        self.length += size;
+        self.reserved = self.reserved.saturating_sub(size);
+        Ok(self.head.last)
+    }
+
     /// A transaction that is active or prepared commits: it has finished, and its cells are free. A
     /// commit is appended, and its LSN is returned. The transaction is committed for good when the log is
     /// on the disk up to this LSN. It is never refused for memory or for an LSN.
@@ -560,15 +586,7 @@ impl Journal {
         ensures kept { OnErr result (self.new ≡ self.old) }
         ensures refused { IfErr result (Refuses self.old (λ run. StepRefused NotAborting run tx)) }
     {
-        let size = operations::commit(
-            &mut self.head,
-            &mut self.transactions,
-            tx,
-            &mut self.buffer[self.length..],
-        )?;
-        self.length += size;
-        self.reserved = self.reserved.saturating_sub(size);
-        Ok(self.head.last)
+        self.take_turn(Turn::Commit, tx)
     }
 
     /// A transaction that is active or prepared begins to abort: an abort is appended, and its LSN is
@@ -586,15 +604,7 @@ impl Journal {
         ensures kept { OnErr result (self.new ≡ self.old) }
         ensures refused { IfErr result (Refuses self.old (λ run. StepRefused NotAborting run tx)) }
     {
-        let size = operations::abort(
-            &mut self.head,
-            &mut self.transactions,
-            tx,
-            &mut self.buffer[self.length..],
-        )?;
-        self.length += size;
-        self.reserved = self.reserved.saturating_sub(size);
-        Ok(self.head.last)
+        self.take_turn(Turn::Abort, tx)
     }
 
     /// A transaction without a pending update ends: it has finished, and its cells are free. An end
@@ -612,16 +622,7 @@ impl Journal {
         ensures kept { OnErr result (self.new ≡ self.old) }
         ensures refused { IfErr result (Refuses self.old (λ run. OwnEndRefused run tx)) }
     {
-        let size = operations::end(
-            &mut self.head,
-            &mut self.transactions,
-            &self.pending,
-            tx,
-            &mut self.buffer[self.length..],
-        )?;
-        self.length += size;
-        self.reserved = self.reserved.saturating_sub(size);
-        Ok(self.head.last)
+        self.take_turn(Turn::End, tx)
     }
 
     /// An active transaction prepares to commit: a prepare is appended, and its LSN is returned. When the
@@ -648,9 +649,11 @@ impl Journal {
             PLAIN_FRAME,
             self.pending.len(),
         )?;
-        let size = operations::prepare(
+        let size = turns::take_turn(
             &mut self.head,
             &mut self.transactions,
+            &self.pending,
+            Turn::Prepare,
             tx,
             &mut self.buffer[self.length..],
         )?;
