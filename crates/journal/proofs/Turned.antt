@@ -1,5 +1,5 @@
 -- What a commit, an abort, an end or a prepare does to a journal.
-use Rattle.std.proofs.Common.{◌≡◌, ◌≢◌, ◌<◌, ◌≤◌, ◌+◌, ◌*◌, ◌^◌, ◌-◌, ℕ, true, List, length, take, map, get_or, refl, arith}
+use Rattle.std.proofs.Common.{◌≡◌, ◌<◌, ◌+◌, ◌*◌, ◌^◌, ◌-◌, ℕ, true, List, length, take, map, get_or, refl, arith}
 use Rattle.log_laws.specs.Records.{PlainRecord}
 use Rattle.log_laws.specs.Meaning.{BasePages}
 use Rattle.wal.specs.Spelling.{Fits}

@@ -3,12 +3,10 @@ use Rattle.std.specs.Prelude.{◌≡◌, ◌≤◌, ◌<◌, ◌+◌, ℕ, List,
 use Rattle.page.specs.Store.{StoreContent}
 use Rattle.log_laws.specs.declared.start.LogStart.{LogStart}
 use Rattle.log_laws.specs.Pages.{base_pages}
-use Rattle.log_laws.specs.Records.{LogRecord, PlainRecord, End, TableEntry, CheckpointBegin, LogContent}
+use Rattle.log_laws.specs.Records.{LogRecord, TableEntry, CheckpointBegin, LogContent}
 use Rattle.log_laws.specs.Meaning.{BasePages, last_on, pending as pending_lsns}
 use Rattle.wal.specs.Spelling.{frame}
-use Rattle.wal.specs.declared.sizes.TheConstants.{PLAIN_FRAME}
 use Rattle.journal.specs.declared.refusal.Refusal.{Refusal}
-use Rattle.journal.specs.declared.table.Need.{Need}
 use Rattle.journal.specs.declared.table.Need.TheVariants.{NotPrepared}
 use Rattle.journal.specs.declared.image.Image.{Image}
 use Rattle.journal.specs.declared.framing.TheConstants.{LONGEST_CHANGE, LONGEST_UNDO}
@@ -23,8 +21,8 @@ use Rattle.journal.specs.Holders.{IsHolder}
 use Rattle.journal.specs.Arrays.{image_of, kept_of, LeavesOthers, OwesLess}
 use Rattle.journal.specs.Writing.{Begins, IsWritten}
 use Rattle.journal.specs.Taken.{checkpoint_text, run_taken, CheckpointRefused}
-use Rattle.journal.specs.State.{IsJournal, IsUndo, update_by, plain_by}
-use Rattle.journal.specs.Refusals.{BeginRefused, CancelRefused, RefusedFor, PrepareRefused, EndRefused, UpdateRefused, UndoRefused, StepRefused, CellMissing, ReportRefused, LogWrittenRefused, PageToWriteRefused}
+use Rattle.journal.specs.State.{IsJournal, IsUndo, update_by}
+use Rattle.journal.specs.Refusals.{BeginRefused, CancelRefused, UpdateRefused, UndoRefused, StepRefused, CellMissing, ReportRefused, LogWrittenRefused, PageToWriteRefused}
 
 -- ARRAYS. What the arrays of a journal hold, as one value
 pub record Held : Type 0 where

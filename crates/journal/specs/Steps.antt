@@ -1,6 +1,5 @@
 -- What each step of an operation finds in the arrays, and does to them (own).
-use Rattle.std.specs.Prelude.{◌≡◌, ◌≢◌, ◌<◌, ◌≤◌, ℕ, true, false, is_some, List, length, take, filter, map, slice_index_or, slice_set, None}
-use Rattle.page.specs.declared.profile.TheConstants.{SLOTS}
+use Rattle.std.specs.Prelude.{◌≡◌, ◌≢◌, ◌<◌, ℕ, true, false, is_some, List, length, take, filter, map, slice_index_or, slice_set, None}
 use Rattle.journal.specs.declared.image.Image.{Image}
 use Rattle.journal.specs.declared.entries.TransactionEntry.{TransactionEntry}
 use Rattle.journal.specs.declared.entries.PageEntry.{PageEntry}
