@@ -81,7 +81,8 @@ pub extern "C" fn aries_journal_update(
         (arrays journal.new transactions.new pages.new pending.new)
         tx page slot after.now out.old out.new told.new) }
     ensures rest { LeavesRest journal.old journal.new }
-    ensures same { OnFailed result (AreSame (arrays journal.old transactions.old pages.old pending.old)
+    ensures same { OnFailed result (AreSame
+        (arrays journal.old transactions.old pages.old pending.old)
         (arrays journal.new transactions.new pages.new pending.new) out.old out.new) }
     ensures refused { UpdateFails (arrays journal.old transactions.old pages.old pending.old)
         tx page slot after.now (length out.old) told.old told.new result }
@@ -116,7 +117,8 @@ pub extern "C" fn aries_journal_undo(
     ensures ok { OnDone result (Undoes (arrays journal.old transactions.old pages.old pending.old)
         (arrays journal.new transactions.new pages.new pending.new) tx out.old out.new told.new) }
     ensures rest { LeavesRest journal.old journal.new }
-    ensures same { OnFailed result (AreSame (arrays journal.old transactions.old pages.old pending.old)
+    ensures same { OnFailed result (AreSame
+        (arrays journal.old transactions.old pages.old pending.old)
         (arrays journal.new transactions.new pages.new pending.new) out.old out.new) }
     ensures refused { UndoFails (arrays journal.old transactions.old pages.old pending.old)
         tx (length out.old) told.old told.new result }
@@ -125,7 +127,7 @@ pub extern "C" fn aries_journal_undo(
     frame_answer(written, told)
 }
 
-/// What a transaction does, by the number of the kind of its record. `None` if no turn has this kind.
+/// What a transaction does, by the kind of its record. `None` if it does nothing by this kind.
 fn turn_of(kind: u8) -> Option<Turn>
     ensures kind { IfSome result (λ turn. kind ≡ kind_of turn) }
     ensures none { result ≡ None → IsNoTurn kind }
@@ -140,8 +142,9 @@ fn turn_of(kind: u8) -> Option<Turn>
 }
 
 /// A transaction commits, aborts, ends or prepares, as by [`journal::take_turn`]. The kind of its
-/// record says which: 3 a commit, 4 an abort, 5 an end, 8 a prepare. Writes the frame of the record to the front of `out`, and the frame's length in bytes to `told`.
-/// 64: `out` is too short; `told` gets the length all the same. 65: any other kind.
+/// record says which: 3 a commit, 4 an abort, 5 an end, 8 a prepare. Writes the frame of the record
+/// to the front of `out`, and the frame's length in bytes to `told`. 64: `out` is too short; `told`
+/// gets the length all the same. 65: any other kind.
 #[unsafe(no_mangle)]
 pub extern "C" fn aries_journal_turn(
     journal: &mut Head,

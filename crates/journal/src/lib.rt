@@ -14,8 +14,8 @@
 //!   it (`Opened`, `Scan`).
 //! - `entries`, `image`, `page_entry`, `table`: the arrays of transactions, pages and pending
 //!   updates (`Arrays`, `Transactions`, `PageStates`).
-//! - `beginning`, `operations`, `turns`: how transactions begin, update and undo, and how they commit,
-//!   abort, end and prepare (`State`, `Outcomes`, `Steps`, `TurnsTaken`, `Holders`).
+//! - `beginning`, `operations`, `turns`: how transactions begin, update and undo, and how they
+//!   commit, abort, end and prepare (`State`, `Outcomes`, `Steps`, `TurnsTaken`, `Holders`).
 //! - `refusal`: why an operation is refused (`Refusals`).
 //! - `framing`: the frames of records in a buffer (`Writing`).
 //! - `checkpoints`: a begin record and an end record with the tables (`Listed`, `Taken`).

@@ -1,5 +1,5 @@
-//! Updates and undo of transactions that have begun. Each changes its own transaction alone. It leaves
-//! the LSN up to which the log is known to be on the disk, and the number of the next transaction.
+//! Updates and undo. Each changes its own transaction alone. It leaves the LSN up to which the log is
+//! known to be on the disk, and the number of the next transaction.
 
 ghost use Rattle.std.specs.Prelude.{◌≡◌, ◌<◌, ◌≤◌, ◌+◌, ◌*◌, ◌^◌, true, false, None, IfSome, IfOk, OnOk, OnErr, IfErr, IsOkUnless, length};
 ghost use Rattle.page.specs.declared.profile.TheConstants.{SLOTS};
@@ -174,13 +174,15 @@ pub fn update(
     out: &mut [u8],
 ) -> Result<usize, Refusal>
     ensures ok { IfOk result (Updates (arrays head.old transactions.old pages.old pending.old)
-        (arrays head.new transactions.new pages.new pending.new) tx page slot after.now out.old out.new) }
+        (arrays head.new transactions.new pages.new pending.new)
+        tx page slot after.now out.old out.new) }
     ensures rest { LeavesRest head.old head.new }
     ensures count { head.new.transactions ≡ head.old.transactions }
     ensures enough { LONGEST_CHANGE ≤ length out.old → IfErr result IsNotRoom }
     ensures same { OnErr result (AreSame (arrays head.old transactions.old pages.old pending.old)
         (arrays head.new transactions.new pages.new pending.new) out.old out.new) }
-    ensures refused { IfErr result (RefusesUpdate (arrays head.old transactions.old pages.old pending.old)
+    ensures refused { IfErr result (RefusesUpdate
+        (arrays head.old transactions.old pages.old pending.old)
         tx page slot after.now (length out.old)) }
 {
     if !after.is_valid() {
@@ -238,8 +240,8 @@ pub fn undo(
     ensures enough { LONGEST_UNDO ≤ length out.old → IfErr result IsNotRoom }
     ensures same { OnErr result (AreSame (arrays head.old transactions.old pages.old pending.old)
         (arrays head.new transactions.new pages.new pending.new) out.old out.new) }
-    ensures refused { IfErr result (RefusesUndo (arrays head.old transactions.old pages.old pending.old)
-        tx (length out.old)) }
+    ensures refused { IfErr result (RefusesUndo
+        (arrays head.old transactions.old pages.old pending.old) tx (length out.old)) }
 {
     let count = used(head.transactions, transactions.len())?;
     let _count = used(head.pending, pending.len())?;

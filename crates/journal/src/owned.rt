@@ -546,8 +546,8 @@ impl Journal {
         Ok(lsn)
     }
 
-    /// A transaction commits, aborts or ends: the record is appended, for whose frame room is set aside.
-    /// Returns its LSN. The errors are those of `commit`, `abort` and `end`.
+    /// A transaction commits, aborts or ends: the record is appended, and its LSN is returned. Room for
+    /// its frame is set aside. The errors are those of `commit`, `abort` and `end`.
     fn take_turn(&mut self, turn: Turn, tx: u32) -> Result<u64, Refusal>
         requires { is_owed turn ≡ true }
         ensures ok { OnOk result (AppendsTurn self.old self.new turn tx) }
@@ -641,7 +641,8 @@ impl Journal {
         ensures rest { LeavesRest self.old self.new }
         ensures others { OnOk result (OthersStay self.old self.new tx) }
         ensures kept { OnErr result (self.new ≡ self.old) }
-        ensures refused { IfErr result (Refuses self.old (λ run. OwnPrepareRefused run tx self.old.head)) }
+        ensures refused { IfErr result (Refuses self.old
+            (λ run. OwnPrepareRefused run tx self.old.head)) }
     {
         let rollback = make_room(
             &mut self.buffer,
@@ -678,7 +679,8 @@ impl Journal {
         ensures pending { self.new.pending ≡ self.old.pending }
         ensures pages { self.new.pages ≡ self.old.pages }
         ensures kept { OnErr result (self.new ≡ self.old) }
-        ensures refused { IfErr result (Refuses self.old (λ _. OwnCheckpointRefused self.old.head)) }
+        ensures refused { IfErr result (Refuses self.old
+            (λ _. OwnCheckpointRefused self.old.head)) }
     {
         let rollback = make_room(
             &mut self.buffer,

@@ -189,8 +189,8 @@ fn note_record(
     requires fits { Fits (shown view.now) }
     ensures count { IfOk result (λ r. r.0 ≤ length transactions.old) }
     ensures held { IfOk result (λ r. r.1 ≤ length pending.old) }
-    ensures ok { IfOk result (NotesRecord (shown view.now) lsn transactions.old count pending.old held
-        transactions.new pending.new) }
+    ensures ok { IfOk result (NotesRecord (shown view.now) lsn
+        transactions.old count pending.old held transactions.new pending.new) }
     ensures kinds { IfErr result IsNoteRefusal }
     ensures err { IfErr result
         (RefusesNote (shown view.now) lsn transactions.old count pending.old held) }

@@ -310,7 +310,8 @@ pub fn note_update(
 )
     requires place { place < length transactions.old }
     requires top { top < length pending.old }
-    ensures transaction { IsUpdatedAt place update.now.lsn (top + 1) transactions.old transactions.new }
+    ensures transaction { IsUpdatedAt place update.now.lsn (top + 1)
+        transactions.old transactions.new }
     ensures pending { pending.new ≡ slice_set pending.old top update.now }
 {
     let entry = &mut transactions[place];

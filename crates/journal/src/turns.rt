@@ -16,21 +16,21 @@ use crate::refusal::Refusal;
 use crate::table::{Need, bound, finish, newest, note_state, place_for, used};
 use wal::PLAIN_FRAME;
 
-/// What a transaction does that takes one record without an image.
+/// What a transaction does by a record that has no image: each but an update and an undo.
 #[derive(Clone, Copy)]
 pub enum Turn {
-    /// A transaction that is active or prepared commits: it has finished, and its cells are free. It
-    /// needs no end record. The commit is durable when the log is on the disk up to its LSN.
+    /// A transaction that is active or prepared commits: it has finished, and its cells are free.
+    /// It needs no end record. The commit is durable when the log is on the disk up to its LSN.
     Commit,
-    /// A transaction that is active or prepared aborts: from then on it can only be undone and end. A
-    /// prepared transaction has to abort before it is undone; an active one need not.
+    /// A transaction that is active or prepared aborts: from then on it can only be undone and end.
+    /// A prepared transaction has to abort before it is undone; an active one need not.
     Abort,
-    /// A transaction that is active or aborting, without pending updates, ends: it has finished, and
-    /// its cells are free.
+    /// A transaction that is active or aborting, without pending updates, ends: it has finished,
+    /// and its cells are free.
     End,
-    /// An active transaction prepares to commit: from then on it can only commit or abort, and holds
-    /// its cells until it has finished. It is in doubt after a crash if the log is on the disk up to
-    /// its LSN.
+    /// An active transaction prepares to commit: from then on it can only commit or abort, and
+    /// holds its cells until it has finished. It is in doubt after a crash if the log is on the
+    /// disk up to its LSN.
     Prepare,
 }
 
@@ -101,8 +101,8 @@ fn check_pending(
     }
 }
 
-/// Removes the entry of a transaction that has finished, or notes its state and the LSN of its record.
-/// Returns how many are left.
+/// Removes the entry of a transaction that has finished, or notes its state and the LSN of its
+/// record. Returns how many are left.
 fn note_turn(
     transactions: &mut [TransactionEntry],
     count: usize,
@@ -136,9 +136,9 @@ fn note_turn(
     }
 }
 
-/// A transaction commits, aborts, ends or prepares: appends its record, whose LSN is `head.last` after
-/// the call. Writes the record's frame to the front of `out`, and returns the frame's length, 25 bytes.
-/// The bytes of `out` after the frame are unchanged.
+/// A transaction commits, aborts, ends or prepares: appends its record, whose LSN is `head.last`
+/// after the call. Writes the record's frame to the front of `out`, and returns the frame's length,
+/// 25 bytes. The bytes of `out` after the frame are unchanged.
 ///
 /// Refused, and nothing changes:
 /// - UnknownTransaction: no transaction with this number has begun and not finished.
