@@ -21,3 +21,8 @@ returns-clause-refused c = λ z base run pages h.
 pub returns-in_default-clause-refused : goal.returns-in_default-clause-refused
 returns-in_default-clause-refused c = λ z base run pages h.
     (BadImage, inr (refl, c.turn_of.ensures.none c.in_default.is), c.not_writable.ensures, refl)
+
+pub returns-clause-same : goal.returns-clause-same
+returns-clause-same c = λ z.
+    let f = c.frame_answer.ensures.failed z in
+    rw f.1 at c.take_turn-written.ensures.same
