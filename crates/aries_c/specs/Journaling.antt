@@ -18,7 +18,8 @@ use Rattle.journal.specs.declared.entries.TransactionEntry.{TransactionEntry}
 use Rattle.journal.specs.declared.entries.PendingEntry.{PendingEntry}
 use Rattle.journal.specs.declared.entries.PageEntry.{PageEntry}
 use Rattle.journal.specs.Runs.{Run, opened, empty_log, MayOpen}
-use Rattle.journal.specs.Refusals.{RefusedFor, EndRefused, PrepareRefused}
+use Rattle.journal.specs.declared.turns.Turn.{Turn}
+use Rattle.journal.specs.TurnsTaken.{kind_of, TurnRefused as Refused}
 use Rattle.journal.specs.Opened.{NewRefused, OpenRefused, HasPageBehind}
 use Rattle.journal.specs.PageStates.{IsUpToDate}
 use Rattle.journal.specs.State.{IsJournal}
@@ -72,10 +73,7 @@ IsNoTurn kind = (kind ≢ 3) × (kind ≢ 4) × (kind ≢ 5) × (kind ≢ 8)
 -- why a commit, an abort, an end or a prepare is refused, by its kind
 abbrev pub TurnRefused : (kind : ℕ) → Run → (tx : ℕ) → Head → (room : ℕ) → Refusal → Type 0
 TurnRefused kind run tx head room e =
-    (((kind ≡ 3) ⊎ (kind ≡ 4)) × RefusedFor NotAborting run tx PLAIN_FRAME room e)
-    ⊎ (((kind ≡ 5) × EndRefused run tx room e)
-    ⊎ (((kind ≡ 8) × PrepareRefused run tx head room e)
-    ⊎ ((e ≡ BadImage) × IsNoTurn kind)))
+    ((turn : Turn) × (kind ≡ kind_of turn) × Refused turn run tx head room e) ⊎ ((e ≡ BadImage) × IsNoTurn kind)
 
 -- A NEW LOG over the pages of a store in these bytes
 pub record IsNewJournal (version base_lsn : ℕ) (store : List ℕ) (head : Head) (pages : List PageEntry) : Type 0 where

@@ -1,18 +1,12 @@
 //! The checkpoints of a journal, and what it gets to know of the disk.
 
-ghost use Rattle.std.specs.Prelude.{◌≡◌, ◌≤◌, ◌+◌, ℕ, List, length};
-ghost use Rattle.log_laws.specs.Records.{TableEntry, CheckpointBegin};
-ghost use Rattle.log_laws.specs.Meaning.{BasePages};
-ghost use Rattle.journal.specs.declared.entries.PendingEntry.{PendingEntry};
+ghost use Rattle.std.specs.Prelude.{◌≡◌, ◌≤◌, ◌+◌, length};
 ghost use Rattle.journal.specs.Arrays.{Reaches, IsNoted};
-ghost use Rattle.journal.specs.Runs.{Run, appended, AreTrueTables};
-ghost use Rattle.journal.specs.Writing.{Begins};
-ghost use Rattle.journal.specs.Taken.{checkpoint_text, run_taken, CheckpointRefused};
 ghost use Rattle.journal.specs.declared.checkpoints.TheConstants.{LONGEST_CHECKPOINT};
-ghost use Rattle.journal.specs.State.{IsJournal, with_written};
+ghost use Rattle.journal.specs.State.{with_written};
+ghost use Rattle.journal.specs.Outcomes.{LeavesRest, StaysHead, Takes};
 ghost use Rattle.aries_c.specs.Fault.{OnDone, OnFailed};
-ghost use Rattle.aries_c.specs.Journaling.{RefusesFrame};
-ghost use Rattle.aries_c.specs.JournalCalls.{StaysJournal, LogWrittenFails, IsLogAhead, PageToWriteFails, Reports, ReportFails};
+ghost use Rattle.aries_c.specs.JournalCalls.{CheckpointFails, LogWrittenFails, IsLogAhead, PageToWriteFails, Reports, ReportFails};
 
 use crate::Fault;
 use crate::refusal::{answer, frame_answer};
@@ -29,26 +23,17 @@ pub extern "C" fn aries_journal_checkpoint(
     out: &mut [u8],
     told: &mut usize,
 ) -> Fault
-    ensures ok { OnDone result ((base : BasePages) (run : Run) (ps : List PendingEntry)
-        → IsJournal base run journal.old transactions.now pages.now ps
-        → (entries : List TableEntry) × (dirty : List (ℕ × ℕ))
-        × AreTrueTables base (appended run CheckpointBegin) (journal.old.last + 1) entries dirty
-        × IsJournal base (run_taken run (journal.old.last + 1) entries dirty)
-        journal.new transactions.now pages.now ps
-        × Begins (checkpoint_text (journal.old.last + 1) entries dirty) out.old out.new
-        × (told.new ≡ length (checkpoint_text (journal.old.last + 1) entries dirty))) }
+    ensures ok { OnDone result (Takes journal.old journal.new transactions.now pages.now
+        out.old out.new told.new) }
     ensures short { OnDone result (told.new ≤ LONGEST_CHECKPOINT) }
     ensures lsn { OnDone result (journal.new.last ≡ journal.old.last + 2) }
-    ensures unforced { journal.new.written ≡ journal.old.written }
-    ensures next { journal.new.next ≡ journal.old.next }
+    ensures rest { LeavesRest journal.old journal.new }
     ensures count { journal.new.transactions ≡ journal.old.transactions }
     ensures updates { journal.new.pending ≡ journal.old.pending }
     ensures journal { OnFailed result (journal.new ≡ journal.old) }
     ensures out { OnFailed result (out.new ≡ out.old) }
-    ensures refused { OnFailed result ((base : BasePages) (run : Run) (ps : List PendingEntry)
-        → IsJournal base run journal.old transactions.now pages.now ps
-        → RefusesFrame (CheckpointRefused base run journal.old (length out.old))
-        result told.old told.new) }
+    ensures refused { CheckpointFails journal.old transactions.now pages.now (length out.old)
+        told.old told.new result }
 {
     let written = journal::checkpoint(journal, transactions, pages, out);
     frame_answer(written, told)
@@ -57,7 +42,7 @@ pub extern "C" fn aries_journal_checkpoint(
 /// Reports that the log is on the disk up to this LSN, as [`journal::log_written`] does.
 #[unsafe(no_mangle)]
 pub extern "C" fn aries_journal_log_written(journal: &mut Head, lsn: u64) -> Fault
-    ensures ok { StaysJournal journal.old journal.new }
+    ensures ok { StaysHead journal.old journal.new }
     ensures known { OnDone result (lsn ≤ journal.old.last) }
     ensures written { OnDone result (journal.new ≡ with_written lsn journal.old) }
     ensures journal { OnFailed result (journal.new ≡ journal.old) }

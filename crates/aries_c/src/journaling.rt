@@ -1,24 +1,15 @@
 //! The operations of transactions in a journal.
 
-ghost use Rattle.std.specs.Prelude.{◌≡◌, ◌≤◌, ◌+◌, List, length, take};
-ghost use Rattle.wal.specs.declared.sizes.TheConstants.{PLAIN_FRAME};
-ghost use Rattle.log_laws.specs.Records.{LogRecord};
-ghost use Rattle.log_laws.specs.Meaning.{BasePages};
-ghost use Rattle.wal.specs.Spelling.{frame};
-ghost use Rattle.journal.specs.declared.entries.PageEntry.{PageEntry};
-ghost use Rattle.journal.specs.Runs.{Run, appended};
-ghost use Rattle.journal.specs.Arrays.{image_of, LeavesOthers};
-ghost use Rattle.journal.specs.Writing.{IsWritten, HasKind};
-ghost use Rattle.journal.specs.Refusals.{UpdateRefused, UndoRefused};
-ghost use Rattle.journal.specs.declared.framing.TheConstants.{LONGEST_CHANGE, LONGEST_UNDO};
-ghost use Rattle.journal.specs.State.{IsJournal, update_by, IsUndo, plain_by};
+ghost use Rattle.std.specs.Prelude.{◌≡◌, ◌+◌, IfSome, None, length};
+ghost use Rattle.journal.specs.TurnsTaken.{kind_of};
+ghost use Rattle.journal.specs.Outcomes.{arrays, AreSame, TableIsSame, LeavesRest, Updates, Undoes};
 ghost use Rattle.aries_c.specs.Fault.{OnDone, OnFailed};
-ghost use Rattle.aries_c.specs.Journaling.{RefusesFrame, TurnRefused};
-ghost use Rattle.aries_c.specs.JournalCalls.{KeepsRun, HasBegun, Untouched, IsFresh, BeginFails, IsGone, CancelFails, IsNewest, NewestFails};
+ghost use Rattle.aries_c.specs.Journaling.{IsNoTurn};
+ghost use Rattle.aries_c.specs.JournalCalls.{KeepsRun, HasBegun, Untouched, IsFresh, BeginFails, IsGone, CancelFails, UpdateFails, UndoFails, TakesTurn, TurnFails, IsNewest, NewestFails};
 
 use crate::Fault;
 use crate::refusal::{answer, frame_answer, refused};
-use journal::{Head, Image, PageEntry, PendingEntry, TransactionEntry};
+use journal::{Head, Image, PageEntry, PendingEntry, TransactionEntry, Turn};
 
 /// Begins a transaction, as [`journal::begin`] does, and writes its number to `tx`.
 #[unsafe(no_mangle)]
@@ -86,34 +77,15 @@ pub extern "C" fn aries_journal_update(
     out: &mut [u8],
     told: &mut usize,
 ) -> Fault
-    ensures ok { OnDone result ((base : BasePages) (run : Run)
-        → IsJournal base run journal.old transactions.old pages.old pending.old
-        → IsJournal base (appended run (update_by base run tx page slot (image_of after.now)))
-        journal.new transactions.new pages.new pending.new) }
-    ensures written { OnDone result ((base : BasePages) (run : Run)
-        → IsJournal base run journal.old transactions.old pages.old pending.old
-        → IsWritten (update_by base run tx page slot (image_of after.now)) (journal.old.last + 1)
-        out.old out.new told.new) }
-    ensures short { OnDone result (told.new ≤ LONGEST_CHANGE) }
-    ensures lsn { OnDone result (journal.new.last ≡ journal.old.last + 1) }
-    ensures others { OnDone result ((base : BasePages) (run : Run)
-        → IsJournal base run journal.old transactions.old pages.old pending.old
-        → LeavesOthers tx (take journal.old.transactions transactions.old)
-        (take journal.old.pending pending.old)
-        (take journal.new.transactions transactions.new) (take journal.new.pending pending.new)) }
-    ensures unforced { journal.new.written ≡ journal.old.written }
-    ensures next { journal.new.next ≡ journal.old.next }
-    ensures journal { OnFailed result (journal.new ≡ journal.old) }
-    ensures transactions { OnFailed result (transactions.new ≡ transactions.old) }
-    ensures pages { OnFailed result (pages.new ≡ pages.old) }
-    ensures pending { OnFailed result (pending.new ≡ pending.old) }
-    ensures out { OnFailed result (out.new ≡ out.old) }
-    ensures refused { OnFailed result ((base : BasePages) (run : Run)
-        → IsJournal base run journal.old transactions.old pages.old pending.old
-        → RefusesFrame (UpdateRefused run tx page slot after.now
-        (length (frame (update_by base run tx page slot (image_of after.now))
-        (journal.old.last + 1)))
-        (length out.old) journal.old transactions.old pending.old) result told.old told.new) }
+    ensures ok { OnDone result (Updates (arrays journal.old transactions.old pages.old pending.old)
+        (arrays journal.new transactions.new pages.new pending.new)
+        tx page slot after.now out.old out.new told.new) }
+    ensures rest { LeavesRest journal.old journal.new }
+    ensures same { OnFailed result (AreSame
+        (arrays journal.old transactions.old pages.old pending.old)
+        (arrays journal.new transactions.new pages.new pending.new) out.old out.new) }
+    ensures refused { UpdateFails (arrays journal.old transactions.old pages.old pending.old)
+        tx page slot after.now (length out.old) told.old told.new result }
 {
     let written = journal::update(
         journal,
@@ -142,37 +114,37 @@ pub extern "C" fn aries_journal_undo(
     out: &mut [u8],
     told: &mut usize,
 ) -> Fault
-    ensures ok { OnDone result ((base : BasePages) (run : Run)
-        → IsJournal base run journal.old transactions.old pages.old pending.old
-        → (r : LogRecord) × IsUndo run tx r
-        × IsJournal base (appended run r) journal.new transactions.new pages.new pending.new
-        × IsWritten r (journal.old.last + 1) out.old out.new told.new) }
-    ensures short { OnDone result (told.new ≤ LONGEST_UNDO) }
-    ensures lsn { OnDone result (journal.new.last ≡ journal.old.last + 1) }
-    ensures others { OnDone result ((base : BasePages) (run : Run)
-        → IsJournal base run journal.old transactions.old pages.old pending.old
-        → LeavesOthers tx (take journal.old.transactions transactions.old)
-        (take journal.old.pending pending.old)
-        (take journal.new.transactions transactions.new) (take journal.new.pending pending.new)) }
-    ensures unforced { journal.new.written ≡ journal.old.written }
-    ensures next { journal.new.next ≡ journal.old.next }
-    ensures journal { OnFailed result (journal.new ≡ journal.old) }
-    ensures transactions { OnFailed result (transactions.new ≡ transactions.old) }
-    ensures pages { OnFailed result (pages.new ≡ pages.old) }
-    ensures pending { OnFailed result (pending.new ≡ pending.old) }
-    ensures out { OnFailed result (out.new ≡ out.old) }
-    ensures refused { OnFailed result ((base : BasePages) (run : Run)
-        → IsJournal base run journal.old transactions.old pages.old pending.old
-        → RefusesFrame (UndoRefused run tx (length out.old)) result told.old told.new) }
+    ensures ok { OnDone result (Undoes (arrays journal.old transactions.old pages.old pending.old)
+        (arrays journal.new transactions.new pages.new pending.new) tx out.old out.new told.new) }
+    ensures rest { LeavesRest journal.old journal.new }
+    ensures same { OnFailed result (AreSame
+        (arrays journal.old transactions.old pages.old pending.old)
+        (arrays journal.new transactions.new pages.new pending.new) out.old out.new) }
+    ensures refused { UndoFails (arrays journal.old transactions.old pages.old pending.old)
+        tx (length out.old) told.old told.new result }
 {
     let written = journal::undo(journal, transactions, pages, pending, tx, out);
     frame_answer(written, told)
 }
 
-/// A transaction commits, aborts, ends or prepares, by the kind of its record: 3 as by
-/// [`journal::commit`], 4 by [`journal::abort`], 5 by [`journal::end`], 8 by [`journal::prepare`].
-/// Writes the frame of the record to the front of `out`, and the frame's length in bytes to `told`.
-/// 64: `out` is too short; `told` gets the length all the same. 65: any other kind.
+/// What a transaction does, by the kind of its record. `None` if it does nothing by this kind.
+fn turn_of(kind: u8) -> Option<Turn>
+    ensures kind { IfSome result (λ turn. kind ≡ kind_of turn) }
+    ensures none { result ≡ None → IsNoTurn kind }
+{
+    match kind {
+        3 => Some(Turn::Commit),
+        4 => Some(Turn::Abort),
+        5 => Some(Turn::End),
+        8 => Some(Turn::Prepare),
+        _ => None,
+    }
+}
+
+/// A transaction commits, aborts, ends or prepares, as by [`journal::take_turn`]. The kind of its
+/// record says which: 3 a commit, 4 an abort, 5 an end, 8 a prepare. Writes the frame of the record
+/// to the front of `out`, and the frame's length in bytes to `told`. 64: `out` is too short; `told`
+/// gets the length all the same. 65: any other kind.
 #[unsafe(no_mangle)]
 pub extern "C" fn aries_journal_turn(
     journal: &mut Head,
@@ -183,31 +155,19 @@ pub extern "C" fn aries_journal_turn(
     out: &mut [u8],
     told: &mut usize,
 ) -> Fault
-    ensures ok { OnDone result ((base : BasePages) (run : Run) (pages : List PageEntry)
-        → IsJournal base run journal.old transactions.old pages pending.now
-        → (r : LogRecord) × HasKind r kind (plain_by run tx)
-        × IsJournal base (appended run r) journal.new transactions.new pages pending.now
-        × IsWritten r (journal.old.last + 1) out.old out.new told.new) }
-    ensures short { OnDone result (told.new ≡ PLAIN_FRAME) }
-    ensures lsn { OnDone result (journal.new.last ≡ journal.old.last + 1) }
-    ensures others { Untouched journal.old transactions.old journal.new transactions.new tx result }
-    ensures unforced { journal.new.written ≡ journal.old.written }
-    ensures next { journal.new.next ≡ journal.old.next }
-    ensures journal { OnFailed result (journal.new ≡ journal.old) }
-    ensures transactions { OnFailed result (transactions.new ≡ transactions.old) }
-    ensures out { OnFailed result (out.new ≡ out.old) }
-    ensures refused { OnFailed result ((base : BasePages) (run : Run) (pages : List PageEntry)
-        → IsJournal base run journal.old transactions.old pages pending.now
-        → RefusesFrame (TurnRefused kind run tx journal.old (length out.old))
-        result told.old told.new) }
+    ensures ok { OnDone result (TakesTurn kind journal.old transactions.old journal.new
+        transactions.new pending.now tx out.old out.new told.new) }
+    ensures rest { LeavesRest journal.old journal.new }
+    ensures same { OnFailed result (TableIsSame journal.old transactions.old out.old journal.new
+        transactions.new out.new) }
+    ensures refused { TurnFails kind journal.old transactions.old pending.now tx (length out.old)
+        told.old told.new result }
 {
-    match kind {
-        3 => frame_answer(journal::commit(journal, transactions, tx, out), told),
-        4 => frame_answer(journal::abort(journal, transactions, tx, out), told),
-        5 => frame_answer(journal::end(journal, transactions, pending, tx, out), told),
-        8 => frame_answer(journal::prepare(journal, transactions, tx, out), told),
-        _ => Fault::not_writable(),
-    }
+    let Some(turn) = turn_of(kind) else {
+        return Fault::not_writable();
+    };
+    let written = journal::take_turn(journal, transactions, pending, turn, tx, out);
+    frame_answer(written, told)
 }
 
 /// Writes the LSN of the newest pending update of a transaction to `lsn`, 0 if it has none. To roll

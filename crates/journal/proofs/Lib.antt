@@ -46,3 +46,4 @@ pub mod Kept
 pub mod OwnRefused
 pub mod Rollbacks
 pub mod Rolled
+pub mod Turned

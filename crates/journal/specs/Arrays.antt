@@ -150,6 +150,14 @@ IsNoRoom es count ps NoPendingRoom = (count ≡ length ps) × (IsTable es → Al
 IsNoRoom es count ps BadArrays = length ps < count
 IsNoRoom es count ps _ = ⊥
 
+-- an array of pending updates was made longer: what it held is at its front
+abbrev pub BeginsAs : (before after : List PendingEntry) → Type 0
+BeginsAs before after = (n : ℕ) → n ≤ length before → take n after ≡ take n before
+
+-- it has room for one more entry than this many, or not each of its updates is needed
+abbrev pub HasRoomFor : List TransactionEntry → (count : ℕ) → (before after : List PendingEntry) → Type 0
+HasRoomFor es count before after = 0 < length before → IsTable es → (count < length after) ⊎ (AllLive es before → ⊥)
+
 -- CHANGES
 abbrev pub updated : TransactionEntry → (lsn below : ℕ) → TransactionEntry
 updated e lsn below = record { last = lsn; undo_next = lsn; below = below; tx = e.tx; state = e.state }

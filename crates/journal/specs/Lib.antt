@@ -18,3 +18,6 @@ pub mod Lives
 pub mod JournalState
 pub mod Owned
 pub mod Rollbacks
+pub mod Outcomes
+pub mod Steps
+pub mod TurnsTaken

@@ -1,5 +1,5 @@
 -- What a journal puts into the tables of a checkpoint (own).
-use Rattle.std.specs.Prelude.{ℕ, List, [], ◌∷◌, Option, Some, None, ◌==◌, if◌then◌else◌, flat_map}
+use Rattle.std.specs.Prelude.{ℕ, ◌+◌, ◌*◌, List, [], ◌∷◌, Option, Some, None, ◌==◌, if◌then◌else◌, flat_map}
 use Rattle.wal.specs.declared.record.Entry.{Entry}
 use Rattle.log_laws.specs.Records.{TableEntry}
 use Rattle.journal.specs.declared.entries.TransactionEntry.{TransactionEntry}
@@ -7,6 +7,8 @@ use Rattle.journal.specs.declared.entries.PageEntry.{PageEntry}
 use Rattle.journal.specs.Transactions.{Transaction}
 use Rattle.journal.specs.PageStates.{PageState}
 use Rattle.journal.specs.Arrays.{state_of}
+use Rattle.journal.specs.Taken.{checkpoint_text}
+use Rattle.wal.specs.declared.sizes.TheConstants.{SMALLEST_FRAME, CHECKPOINT_FRAME, ENTRY_BYTES, DIRTY_BYTES}
 
 -- a transaction is listed if it has a record
 abbrev pub listed : ℕ × Transaction → List (ℕ × Entry)
@@ -35,3 +37,11 @@ entries_listed es = flat_map listed_entry es
 
 abbrev pub dirty_listed : List PageEntry → List (ℕ × ℕ)
 dirty_listed ps = flat_map listed_dirty ps
+
+-- the frames of a checkpoint of these arrays, whose begin record has this LSN
+abbrev pub text_of : (begin : ℕ) → List TransactionEntry → List PageEntry → List ℕ
+text_of begin es ps = checkpoint_text begin (entries_listed es) (dirty_listed ps)
+
+-- how many bytes they take, with this many entries in their tables
+abbrev pub checkpoint_bytes : (rows dirties : ℕ) → ℕ
+checkpoint_bytes rows dirties = SMALLEST_FRAME + CHECKPOINT_FRAME + ENTRY_BYTES * rows + DIRTY_BYTES * dirties

@@ -1,13 +1,8 @@
 //! How transactions begin, and how one without a record leaves. No other transaction changes.
 
-ghost use Rattle.std.specs.Prelude.{◌≡◌, ◌≤◌, ◌+◌, List, IfOk, OnOk, OnErr, IfErr, length, take};
-ghost use Rattle.log_laws.specs.Meaning.{BasePages};
-ghost use Rattle.journal.specs.declared.entries.PageEntry.{PageEntry};
-ghost use Rattle.journal.specs.declared.entries.PendingEntry.{PendingEntry};
-ghost use Rattle.journal.specs.Refusals.{BeginRefused, CancelRefused};
-ghost use Rattle.journal.specs.Runs.{Run};
-ghost use Rattle.journal.specs.Arrays.{kept_of, OwesLess};
-ghost use Rattle.journal.specs.State.{IsJournal, HasBegun, IsGone, HasNoRecord, OthersStay};
+ghost use Rattle.std.specs.Prelude.{◌≡◌, ◌≤◌, ◌+◌, IfOk, OnOk, OnErr, IfErr, length};
+ghost use Rattle.journal.specs.State.{HasBegun, IsGone, HasNoRecord, OthersStay};
+ghost use Rattle.journal.specs.Outcomes.{LeavesRest, StaysJournal, RefusesBegin, RefusesCancel, LessIsOwed};
 
 use crate::entries::{Head, TransactionEntry};
 use crate::operations::reserve;
@@ -28,9 +23,7 @@ use page::TRANSACTIONS;
 ///   unfinished.
 /// - NoNumber: the numbers are used up.
 pub fn begin(head: &mut Head, transactions: &mut [TransactionEntry]) -> Result<u32, Refusal>
-    ensures ok { OnOk result ((base : BasePages) (run : Run) (pages : List PageEntry)
-        (pending : List PendingEntry) → IsJournal base run head.old transactions.old pages pending
-        → IsJournal base run head.new transactions.new pages pending) }
+    ensures ok { OnOk result (StaysJournal head.old transactions.old head.new transactions.new) }
     ensures begun { IfOk result (HasBegun head.old transactions.old head.new transactions.new) }
     ensures others { IfOk result (OthersStay head.old transactions.old head.new transactions.new) }
     ensures number { IfOk result (λ tx. tx ≡ head.old.next) }
@@ -42,9 +35,7 @@ pub fn begin(head: &mut Head, transactions: &mut [TransactionEntry]) -> Result<u
     ensures last { head.new.last ≡ head.old.last }
     ensures head { OnErr result (head.new ≡ head.old) }
     ensures transactions { OnErr result (transactions.new ≡ transactions.old) }
-    ensures refused { IfErr result (λ e. (base : BasePages) (run : Run) (pages : List PageEntry)
-        (pending : List PendingEntry) → IsJournal base run head.old transactions.old pages pending
-        → BeginRefused head.old (length transactions.old) e) }
+    ensures refused { IfErr result (RefusesBegin head.old transactions.old) }
 {
     let count = used(head.transactions, transactions.len())?;
     if count >= TRANSACTIONS || count >= transactions.len() {
@@ -78,27 +69,18 @@ pub fn cancel(
     transactions: &mut [TransactionEntry],
     tx: u32,
 ) -> Result<(), Refusal>
-    ensures ok { OnOk result ((base : BasePages) (run : Run) (pages : List PageEntry)
-        (pending : List PendingEntry) → IsJournal base run head.old transactions.old pages pending
-        → IsJournal base run head.new transactions.new pages pending) }
+    ensures ok { OnOk result (StaysJournal head.old transactions.old head.new transactions.new) }
     ensures gone { OnOk result (IsGone head.old transactions.old head.new transactions.new tx) }
     ensures unlogged { OnOk result (HasNoRecord head.old transactions.old tx) }
     ensures others { OnOk result (OthersStay head.old transactions.old head.new transactions.new tx) }
-    ensures owes { OnOk result ((base : BasePages) (run : Run) (pages : List PageEntry)
-        (pending : List PendingEntry) → IsJournal base run head.old transactions.old pages pending
-        → OwesLess (take head.old.transactions transactions.old) (take head.old.pending pending)
-        (take head.new.transactions transactions.new) (take head.new.pending pending)) }
+    ensures owes { OnOk result (LessIsOwed head.old transactions.old head.new transactions.new) }
     ensures count { OnOk result (head.new.transactions + 1 ≡ head.old.transactions) }
     ensures last { head.new.last ≡ head.old.last }
-    ensures unforced { head.new.written ≡ head.old.written }
-    ensures pending { head.new.pending ≡ head.old.pending }
-    ensures next { head.new.next ≡ head.old.next }
+    ensures updates { head.new.pending ≡ head.old.pending }
+    ensures rest { LeavesRest head.old head.new }
     ensures head { OnErr result (head.new ≡ head.old) }
     ensures transactions { OnErr result (transactions.new ≡ transactions.old) }
-    ensures refused { IfErr result (λ e. (base : BasePages) (run : Run) (pages : List PageEntry)
-        (pending : List PendingEntry) → IsJournal base run head.old transactions.old pages pending
-        → CancelRefused run (kept_of (take head.old.transactions transactions.old)
-        (take head.old.pending pending)) tx e) }
+    ensures refused { IfErr result (RefusesCancel head.old transactions.old tx) }
 {
     let count = used(head.transactions, transactions.len())?;
     let Some(place) = find(&transactions[..count], tx) else {

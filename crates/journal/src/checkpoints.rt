@@ -1,19 +1,14 @@
 //! Checkpoints: one call appends the begin record and the end record.
 
-ghost use Rattle.std.specs.Prelude.{◌≡◌, ◌≤◌, ◌<◌, ◌+◌, ◌*◌, ◌++◌, ℕ, List, OnOk, OnErr, IfOk, IfErr, length, flat_map};
+ghost use Rattle.std.specs.Prelude.{◌≡◌, ◌≤◌, ◌+◌, ◌*◌, OnOk, OnErr, IfOk, IfErr, length, flat_map};
 ghost use Rattle.page.specs.declared.profile.TheConstants.{PAGES, TRANSACTIONS};
-ghost use Rattle.wal.specs.declared.sizes.TheConstants.{SMALLEST_FRAME, CHECKPOINT_FRAME, ENTRY_BYTES, DIRTY_BYTES};
-ghost use Rattle.log_laws.specs.Records.{TableEntry, CheckpointBegin};
-ghost use Rattle.log_laws.specs.Meaning.{BasePages};
+ghost use Rattle.wal.specs.declared.sizes.TheConstants.{ENTRY_BYTES, DIRTY_BYTES};
 ghost use Rattle.wal.specs.Spelling.{entry, dirty_page};
-ghost use Rattle.journal.specs.declared.entries.PendingEntry.{PendingEntry};
-ghost use Rattle.journal.specs.Listed.{listed_entry, listed_dirty, entries_listed, dirty_listed};
-ghost use Rattle.journal.specs.Runs.{Run, appended, AreTrueTables};
-ghost use Rattle.journal.specs.Writing.{Begins};
+ghost use Rattle.journal.specs.Listed.{listed_entry, listed_dirty, entries_listed, dirty_listed, text_of, checkpoint_bytes};
+ghost use Rattle.journal.specs.Writing.{Begins, Continues};
 ghost use Rattle.journal.specs.declared.checkpoints.TheConstants.{LONGEST_CHECKPOINT};
 ghost use Rattle.journal.specs.Refusals.{IsNotRoom};
-ghost use Rattle.journal.specs.Taken.{checkpoint_text, run_taken, CheckpointRefused};
-ghost use Rattle.journal.specs.State.{IsJournal};
+ghost use Rattle.journal.specs.Outcomes.{LeavesRest, Takes, RefusesCheckpoint};
 
 use crate::entries::{Head, PageEntry, TransactionEntry};
 use crate::framing::{LENGTH_BYTES, put};
@@ -74,8 +69,7 @@ fn dirty(pages: &[PageEntry]) -> usize
 fn put_entry(out: &mut [u8], at: usize, row: &TransactionEntry) -> usize
     requires { at + ENTRY_BYTES * length (listed_entry row.now) ≤ length out.old }
     ensures end { result ≡ at + ENTRY_BYTES * length (listed_entry row.now) }
-    ensures text { (text before : List ℕ) → length text ≡ at → Begins text before out.old
-        → Begins (text ++ flat_map entry (listed_entry row.now)) before out.new }
+    ensures text { Continues (flat_map entry (listed_entry row.now)) at out.old out.new }
 {
     if row.last == 0 {
         return at;
@@ -88,8 +82,7 @@ fn put_entry(out: &mut [u8], at: usize, row: &TransactionEntry) -> usize
 fn put_dirty(out: &mut [u8], at: usize, held: &PageEntry) -> usize
     requires { at + DIRTY_BYTES * length (listed_dirty held.now) ≤ length out.old }
     ensures end { result ≡ at + DIRTY_BYTES * length (listed_dirty held.now) }
-    ensures text { (text before : List ℕ) → length text ≡ at → Begins text before out.old
-        → Begins (text ++ flat_map dirty_page (listed_dirty held.now)) before out.new }
+    ensures text { Continues (flat_map dirty_page (listed_dirty held.now)) at out.old out.new }
 {
     if held.rec_lsn == 0 {
         return at;
@@ -102,8 +95,7 @@ fn put_dirty(out: &mut [u8], at: usize, held: &PageEntry) -> usize
 fn put_entries(out: &mut [u8], at: usize, entries: &[TransactionEntry]) -> usize
     requires { at + ENTRY_BYTES * length (entries_listed entries.now) ≤ length out.old }
     ensures end { result ≡ at + ENTRY_BYTES * length (entries_listed entries.now) }
-    ensures text { (text before : List ℕ) → length text ≡ at → Begins text before out.old
-        → Begins (text ++ flat_map entry (entries_listed entries.now)) before out.new }
+    ensures text { Continues (flat_map entry (entries_listed entries.now)) at out.old out.new }
 {
     let mut end = at;
     for entry in entries {
@@ -116,8 +108,7 @@ fn put_entries(out: &mut [u8], at: usize, entries: &[TransactionEntry]) -> usize
 fn put_dirties(out: &mut [u8], at: usize, pages: &[PageEntry]) -> usize
     requires { at + DIRTY_BYTES * length (dirty_listed pages.now) ≤ length out.old }
     ensures end { result ≡ at + DIRTY_BYTES * length (dirty_listed pages.now) }
-    ensures text { (text before : List ℕ) → length text ≡ at → Begins text before out.old
-        → Begins (text ++ flat_map dirty_page (dirty_listed pages.now)) before out.new }
+    ensures text { Continues (flat_map dirty_page (dirty_listed pages.now)) at out.old out.new }
 {
     let mut end = at;
     for held in pages {
@@ -142,9 +133,9 @@ fn put_checkpoint(
     requires few_rows { rows ≤ TRANSACTIONS }
     requires dirties { dirties ≡ length (dirty_listed pages.now) }
     requires few_dirties { dirties ≤ PAGES }
-    requires room { SMALLEST_FRAME + CHECKPOINT_FRAME + ENTRY_BYTES * rows + DIRTY_BYTES * dirties ≤ length out.old }
-    ensures text { Begins (checkpoint_text begin (entries_listed entries.now) (dirty_listed pages.now)) out.old out.new }
-    ensures size { result ≡ length (checkpoint_text begin (entries_listed entries.now) (dirty_listed pages.now)) }
+    requires room { checkpoint_bytes rows dirties ≤ length out.old }
+    ensures text { Begins (text_of begin entries.now pages.now) out.old out.new }
+    ensures size { result ≡ length (text_of begin entries.now pages.now) }
 {
     let tables = ENTRY_BYTES * rows + DIRTY_BYTES * dirties;
     let first = FrameHead {
@@ -186,16 +177,9 @@ pub fn checkpoint(
     pages: &[PageEntry],
     frames: &mut [u8],
 ) -> Result<usize, Refusal>
-    ensures ok { IfOk result (λ size. (base : BasePages) (run : Run) (ps : List PendingEntry)
-        → IsJournal base run head.old transactions.now pages.now ps
-        → (entries : List TableEntry) × (dirty : List (ℕ × ℕ))
-        × AreTrueTables base (appended run CheckpointBegin) (head.old.last + 1) entries dirty
-        × IsJournal base (run_taken run (head.old.last + 1) entries dirty)
-        head.new transactions.now pages.now ps
-        × Begins (checkpoint_text (head.old.last + 1) entries dirty) frames.old frames.new
-        × (size ≡ length (checkpoint_text (head.old.last + 1) entries dirty))) }
-    ensures unforced { head.new.written ≡ head.old.written }
-    ensures next { head.new.next ≡ head.old.next }
+    ensures ok { IfOk result
+        (Takes head.old head.new transactions.now pages.now frames.old frames.new) }
+    ensures rest { LeavesRest head.old head.new }
     ensures size { IfOk result (λ size. size ≤ length frames.old) }
     ensures short { IfOk result (λ size. size ≤ LONGEST_CHECKPOINT) }
     ensures enough { LONGEST_CHECKPOINT ≤ length frames.old → IfErr result IsNotRoom }
@@ -204,9 +188,8 @@ pub fn checkpoint(
     ensures lsn { OnOk result (head.new.last ≡ head.old.last + 2) }
     ensures head { OnErr result (head.new ≡ head.old) }
     ensures frames { OnErr result (frames.new ≡ frames.old) }
-    ensures refused { IfErr result (λ e. (base : BasePages) (run : Run) (ps : List PendingEntry)
-        → IsJournal base run head.old transactions.now pages.now ps
-        → CheckpointRefused base run head.old (length frames.old) e) }
+    ensures refused { IfErr result
+        (RefusesCheckpoint head.old transactions.now pages.now (length frames.old)) }
 {
     let begin = next_lsn(head.last)?;
     let lsn = next_lsn(begin)?;

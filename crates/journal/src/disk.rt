@@ -1,15 +1,9 @@
 //! What an engine reports about the disk, and which pages it may write.
 
-ghost use Rattle.std.specs.Prelude.{◌≡◌, ◌≤◌, ◌<◌, List, OnOk, OnErr, IfOk, IfErr};
-ghost use Rattle.log_laws.specs.Meaning.{BasePages, last_on};
-ghost use Rattle.journal.specs.declared.entries.Head.{Head};
-ghost use Rattle.journal.specs.declared.entries.TransactionEntry.{TransactionEntry};
-ghost use Rattle.journal.specs.declared.entries.PageEntry.{PageEntry};
-ghost use Rattle.journal.specs.declared.entries.PendingEntry.{PendingEntry};
-ghost use Rattle.journal.specs.Refusals.{ReportRefused, LogWrittenRefused, PageToWriteRefused};
-ghost use Rattle.journal.specs.Runs.{Run, reported, count_of, log_of};
+ghost use Rattle.std.specs.Prelude.{◌≡◌, ◌≤◌, OnOk, OnErr, IfErr};
 ghost use Rattle.journal.specs.Arrays.{Reaches, IsNoted};
-ghost use Rattle.journal.specs.State.{IsJournal, with_written};
+ghost use Rattle.journal.specs.State.{with_written};
+ghost use Rattle.journal.specs.Outcomes.{StaysHead, RefusesLogWritten, IsLogAhead, RefusesPageToWrite, Reports, RefusesReport};
 
 use crate::entries::{Head, PageEntry};
 use crate::refusal::Refusal;
@@ -18,15 +12,11 @@ use crate::refusal::Refusal;
 /// last one; one below an earlier report changes nothing. The only error is `NoSuchLsn`, if the LSN
 /// is above that of the log's last record. Then nothing changes.
 pub fn log_written(head: &mut Head, lsn: u64) -> Result<(), Refusal>
-    ensures ok { (base : BasePages) (run : Run) (ts : List TransactionEntry) (pages : List PageEntry)
-        (ps : List PendingEntry) → IsJournal base run head.old ts pages ps
-        → IsJournal base run head.new ts pages ps }
+    ensures ok { StaysHead head.old head.new }
     ensures known { OnOk result (lsn ≤ head.old.last) }
     ensures written { OnOk result (head.new ≡ with_written lsn head.old) }
     ensures err { OnErr result (head.new ≡ head.old) }
-    ensures refused { IfErr result (λ e. (base : BasePages) (run : Run)
-        (ts : List TransactionEntry) (pages : List PageEntry) (ps : List PendingEntry)
-        → IsJournal base run head.old ts pages ps → LogWrittenRefused run lsn e) }
+    ensures refused { IfErr result (RefusesLogWritten head.old lsn) }
 {
     if lsn > head.last {
         return Err(Refusal::NoSuchLsn);
@@ -39,13 +29,8 @@ pub fn log_written(head: &mut Head, lsn: u64) -> Result<(), Refusal>
 /// disk up to its PageLSN (write-ahead logging). Errors: `NoSuchPage`; `LogNotWritten` with the
 /// PageLSN, if the log has to be written first.
 pub fn page_to_write(head: &Head, pages: &[PageEntry], number: u32) -> Result<(), Refusal>
-    ensures ahead { OnOk result ((base : BasePages) (run : Run) (ts : List TransactionEntry)
-        (ps : List PendingEntry) → IsJournal base run head.now ts pages.now ps
-        → (number < count_of run) × (last_on base number (log_of run) ≤ head.now.written)) }
-    ensures refused { IfErr result (λ e. (base : BasePages) (run : Run)
-        (ts : List TransactionEntry) (ps : List PendingEntry)
-        → IsJournal base run head.now ts pages.now ps
-        → PageToWriteRefused base run head.now.written number e) }
+    ensures ahead { OnOk result (IsLogAhead head.now pages.now number) }
+    ensures refused { IfErr result (RefusesPageToWrite head.now pages.now number) }
 {
     if number as usize >= pages.len() {
         return Err(Refusal::NoSuchPage);
@@ -62,16 +47,11 @@ pub fn page_to_write(head: &Head, pages: &[PageEntry], number: u32) -> Result<()
 /// synced before that checkpoint becomes the master. Errors, after which nothing changes:
 /// `NoSuchPage`; `NoSuchLsn`, if the LSN is above the PageLSN of the page.
 pub fn page_written(pages: &mut [PageEntry], number: u32, lsn: u64) -> Result<(), Refusal>
-    ensures ok { OnOk result ((base : BasePages) (run : Run) (head : Head)
-        (ts : List TransactionEntry) (ps : List PendingEntry)
-        → IsJournal base run head ts pages.old ps
-        → IsJournal base (reported run number lsn) head ts pages.new ps) }
+    ensures ok { OnOk result (Reports pages.old pages.new number lsn) }
     ensures known { OnOk result (Reaches pages.old number lsn) }
     ensures noted { OnOk result (IsNoted pages.old pages.new number lsn) }
     ensures err { OnErr result (pages.new ≡ pages.old) }
-    ensures refused { IfErr result (λ e. (base : BasePages) (run : Run) (head : Head)
-        (ts : List TransactionEntry) (ps : List PendingEntry)
-        → IsJournal base run head ts pages.old ps → ReportRefused base run number lsn e) }
+    ensures refused { IfErr result (RefusesReport pages.old number lsn) }
 {
     if number as usize >= pages.len() {
         return Err(Refusal::NoSuchPage);

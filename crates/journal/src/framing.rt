@@ -1,12 +1,11 @@
 //! The frames of records, written into a buffer. Nothing is allocated.
 
-ghost use Rattle.std.specs.Prelude.{◌≡◌, ◌≤◌, ◌<◌, ◌+◌, ◌++◌, ℕ, List, length};
+ghost use Rattle.std.specs.Prelude.{◌≡◌, ◌≤◌, ◌<◌, ◌+◌, length};
 ghost use Rattle.page.specs.declared.profile.TheConstants.{SLOTS};
-ghost use Rattle.wal.specs.declared.sizes.TheConstants.{CELL_HEAD, LSN_BYTES, PLAIN_FRAME};
-ghost use Rattle.log_laws.specs.Records.{LogRecord, Update, Compensation};
-ghost use Rattle.wal.specs.Spelling.{image, frame, Fits};
+ghost use Rattle.wal.specs.declared.sizes.TheConstants.{PLAIN_FRAME};
+ghost use Rattle.wal.specs.Spelling.{image, Fits};
 ghost use Rattle.journal.specs.Arrays.{image_of};
-ghost use Rattle.journal.specs.Writing.{Begins, IsWritten, HasKind};
+ghost use Rattle.journal.specs.Writing.{Continues, IsWritten, update_bytes, clr_bytes, update_with, clr_with, WritesPlain, PlainFits};
 
 use crate::image::Image;
 use page::VALUE_BYTES;
@@ -24,8 +23,7 @@ pub const LONGEST_UNDO: usize = CELL_HEAD + LSN_BYTES + 1 + VALUE_BYTES;
 /// Writes bytes at an offset.
 pub fn put(out: &mut [u8], at: usize, bytes: &[u8])
     requires { at + length bytes.now ≤ length out.old }
-    ensures { (text before : List ℕ) → length text ≡ at → Begins text before out.old
-        → Begins (text ++ bytes.now) before out.new }
+    ensures { Continues bytes.now at out.old out.new }
 {
     out[at..at + bytes.len()].copy_from_slice(bytes);
 }
@@ -33,8 +31,7 @@ pub fn put(out: &mut [u8], at: usize, bytes: &[u8])
 /// Writes an image at an offset.
 fn put_image(out: &mut [u8], at: usize, written: &Image)
     requires { at + length (image (image_of written.now)) ≤ length out.old }
-    ensures { (text before : List ℕ) → length text ≡ at → Begins text before out.old
-        → Begins (text ++ image (image_of written.now)) before out.new }
+    ensures { Continues (image (image_of written.now)) at out.old out.new }
 {
     match written.bytes() {
         Some(bytes) => {
@@ -47,8 +44,7 @@ fn put_image(out: &mut [u8], at: usize, written: &Image)
 
 /// How many bytes the frame of an update with these images takes.
 pub fn update_size(before: &Image, after: &Image) -> usize
-    ensures size { result ≡ CELL_HEAD + length (image (image_of before.now))
-        + length (image (image_of after.now)) }
+    ensures size { result ≡ update_bytes before.now after.now }
     ensures short { result ≤ LONGEST_CHANGE }
 {
     CELL_HEAD + before.frame_len() + after.frame_len()
@@ -66,12 +62,12 @@ pub fn put_update(
     before: &Image,
     after: &Image,
 ) -> usize
-    requires room { CELL_HEAD + length (image (image_of before.now))
-        + length (image (image_of after.now)) ≤ length out.old }
+    requires room { update_bytes before.now after.now ≤ length out.old }
     requires tx { 0 < tx }
     requires slot { slot < SLOTS }
-    ensures written { IsWritten (Update (record { tx = tx; prev = prev; page = page; slot = slot; before = image_of before.now; after = image_of after.now })) lsn out.old out.new result }
-    ensures fits { Fits (Update (record { tx = tx; prev = prev; page = page; slot = slot; before = image_of before.now; after = image_of after.now })) }
+    ensures written { IsWritten (update_with tx prev page slot before.now after.now)
+        lsn out.old out.new result }
+    ensures fits { Fits (update_with tx prev page slot before.now after.now) }
 {
     let size = update_size(before, after);
     let head = FrameHead {
@@ -87,7 +83,7 @@ pub fn put_update(
 
 /// How many bytes the frame of a CLR with this image takes.
 pub fn compensation_size(restored: &Image) -> usize
-    ensures size { result ≡ CELL_HEAD + LSN_BYTES + length (image (image_of restored.now)) }
+    ensures size { result ≡ clr_bytes restored.now }
     ensures short { result ≤ LONGEST_UNDO }
 {
     CELL_HEAD + LSN_BYTES + restored.frame_len()
@@ -105,12 +101,12 @@ pub fn put_compensation(
     undo_next: u64,
     restored: &Image,
 ) -> usize
-    requires room { CELL_HEAD + LSN_BYTES + length (image (image_of restored.now))
-        ≤ length out.old }
+    requires room { clr_bytes restored.now ≤ length out.old }
     requires tx { 0 < tx }
     requires slot { slot < SLOTS }
-    ensures written { IsWritten (Compensation (record { tx = tx; prev = prev; page = page; slot = slot; undo_next = undo_next; image = image_of restored.now })) lsn out.old out.new result }
-    ensures fits { Fits (Compensation (record { tx = tx; prev = prev; page = page; slot = slot; undo_next = undo_next; image = image_of restored.now })) }
+    ensures written { IsWritten (clr_with tx prev page slot undo_next restored.now)
+        lsn out.old out.new result }
+    ensures fits { Fits (clr_with tx prev page slot undo_next restored.now) }
 {
     let size = compensation_size(restored);
     let head = FrameHead {
@@ -129,9 +125,8 @@ pub fn put_compensation(
 pub fn put_plain(out: &mut [u8], lsn: u64, kind: u8, tx: u32, prev: u64)
     requires room { PLAIN_FRAME ≤ length out.old }
     requires tx { 0 < tx }
-    ensures written { (r : LogRecord) → HasKind r kind (record { tx = tx; prev = prev })
-        → IsWritten r lsn out.old out.new PLAIN_FRAME }
-    ensures fits { (r : LogRecord) → HasKind r kind (record { tx = tx; prev = prev }) → Fits r }
+    ensures written { WritesPlain kind tx prev lsn out.old out.new }
+    ensures fits { PlainFits kind tx prev }
 {
     let head = FrameHead {
         length: (PLAIN_FRAME - LENGTH_BYTES) as u32,

@@ -14,7 +14,8 @@
 //!   it (`Opened`, `Scan`).
 //! - `entries`, `image`, `page_entry`, `table`: the arrays of transactions, pages and pending
 //!   updates (`Arrays`, `Transactions`, `PageStates`).
-//! - `beginning`, `operations`: how transactions begin, update, undo and end (`State`, `Holders`).
+//! - `beginning`, `operations`, `turns`: how transactions begin, update and undo, and how they
+//!   commit, abort, end and prepare (`State`, `Outcomes`, `Steps`, `TurnsTaken`, `Holders`).
 //! - `refusal`: why an operation is refused (`Refusals`).
 //! - `framing`: the frames of records in a buffer (`Writing`).
 //! - `checkpoints`: a begin record and an end record with the tables (`Listed`, `Taken`).
@@ -38,6 +39,7 @@ mod page_entry;
 mod refusal;
 mod reopening;
 mod table;
+mod turns;
 
 pub use beginning::{begin, cancel};
 pub use checkpoints::checkpoint;
@@ -51,7 +53,8 @@ pub use laws::{
     frames_are_log, journal_can_roll_back, lives_survive, restart_reopens, synced_may_be_master,
 };
 pub use opening::new;
-pub use operations::{abort, commit, end, holder, newest_pending, prepare, undo, update};
+pub use operations::{holder, newest_pending, undo, update};
 pub use owned::Journal;
 pub use refusal::Refusal;
 pub use reopening::open;
+pub use turns::{Turn, take_turn};

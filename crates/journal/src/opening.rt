@@ -1,16 +1,12 @@
 //! How a journal of a new log is opened.
 
-ghost use Rattle.std.specs.Prelude.{◌≡◌, ◌≢◌, ◌≤◌, ◌↔◌, List, All, IsTrue, IfOk, OnOk, IfErr, OnErr, length, map};
+ghost use Rattle.std.specs.Prelude.{◌≡◌, ◌≢◌, ◌≤◌, ◌↔◌, All, IsTrue, IfOk, OnOk, IfErr, OnErr, length, map};
 ghost use Rattle.page.specs.declared.profile.TheConstants.{SLOTS};
 ghost use Rattle.log_laws.specs.Records.{lsn_before};
-ghost use Rattle.log_laws.specs.Pages.{base_pages};
-ghost use Rattle.journal.specs.declared.entries.TransactionEntry.{TransactionEntry};
-ghost use Rattle.journal.specs.declared.entries.PendingEntry.{PendingEntry};
-ghost use Rattle.journal.specs.Runs.{opened, empty_log};
 ghost use Rattle.journal.specs.PageStates.{first_page_state};
 ghost use Rattle.journal.specs.Arrays.{page_state_of};
 ghost use Rattle.journal.specs.Opened.{NewRefused};
-ghost use Rattle.journal.specs.State.{IsJournal};
+ghost use Rattle.journal.specs.Outcomes.{BeginsJournal};
 
 use crate::entries::{Head, PageEntry, PageImage};
 use crate::refusal::Refusal;
@@ -68,9 +64,7 @@ fn are_up_to(pages: &[Page], lsn: u64) -> bool
 /// - LogFull: the base LSN is larger than that of a log can be.
 /// - PageAhead: a page has a PageLSN above the base LSN.
 pub fn new(begins: LogStart, store: &Store, pages: &mut [PageEntry]) -> Result<Head, Refusal>
-    ensures ok { IfOk result (λ head. (ts : List TransactionEntry) (ps : List PendingEntry)
-        → IsJournal (base_pages store.now.pages) (opened (empty_log begins) store.now)
-        head ts pages.new ps) }
+    ensures ok { IfOk result (BeginsJournal begins store.now pages.new) }
     ensures no_master { OnOk result (store.now.master ≡ 0) }
     ensures written { IfOk result (λ head. head.written ≡ lsn_before begins) }
     ensures none { IfOk result (λ head. head.transactions ≡ 0) }

@@ -1,38 +1,23 @@
-//! The operations of transactions that have begun. Each changes its own transaction alone. It leaves
-//! the LSN up to which the log is known to be on the disk, and the number of the next transaction.
+//! Updates and undo. Each changes its own transaction alone. It leaves the LSN up to which the log is
+//! known to be on the disk, and the number of the next transaction.
 
-ghost use Rattle.std.specs.Prelude.{◌≡◌, ◌≢◌, ◌<◌, ◌≤◌, ◌+◌, ◌*◌, ◌^◌, ℕ, true, false, is_some, List, None, IfSome, IfOk, OnOk, OnErr, IfErr, IsOkUnless, length, slice_index_or, map, take};
+ghost use Rattle.std.specs.Prelude.{◌≡◌, ◌<◌, ◌≤◌, ◌+◌, ◌*◌, ◌^◌, true, false, None, IfSome, IfOk, OnOk, OnErr, IfErr, IsOkUnless, length};
 ghost use Rattle.page.specs.declared.profile.TheConstants.{SLOTS};
-ghost use Rattle.wal.specs.declared.sizes.TheConstants.{PLAIN_FRAME};
-ghost use Rattle.log_laws.specs.Records.{LogRecord, Commit, Abort, End, Prepare};
-ghost use Rattle.log_laws.specs.Meaning.{BasePages, pending as pending_lsns};
-ghost use Rattle.wal.specs.Spelling.{frame};
 ghost use Rattle.journal.specs.declared.refusal.Refusal.TheVariants.{LogFull, NoFrameRoom};
-ghost use Rattle.journal.specs.declared.table.Need.TheVariants.{Working, NotAborting, NotPrepared};
-ghost use Rattle.journal.specs.declared.entries.PendingEntry.{PendingEntry};
-ghost use Rattle.journal.specs.declared.entries.PageEntry.{PageEntry};
-ghost use Rattle.journal.specs.Runs.{Run, appended, count_of, log_of};
-ghost use Rattle.journal.specs.Rollbacks.{newest_of, CanUndo};
-ghost use Rattle.journal.specs.PageStates.{PageState};
-ghost use Rattle.journal.specs.Arrays.{image_of, page_state_of, unless_0, kept_of, LeavesOthers, IsTable, OwesLess};
-ghost use Rattle.journal.specs.Writing.{IsWritten};
 ghost use Rattle.journal.specs.declared.framing.TheConstants.{LONGEST_CHANGE, LONGEST_UNDO};
-ghost use Rattle.journal.specs.Refusals.{IsNotRoom, StepRefused, RefusedFor, PrepareRefused, UpdateRefused, UndoRefused, EndRefused, CellMissing, CellRefused};
-ghost use Rattle.journal.specs.Transactions.{IsFreeFor};
-ghost use Rattle.journal.specs.Holders.{IsHolder};
-ghost use Rattle.journal.specs.State.{IsJournal, OthersStay, update_by, IsUndo, plain_by};
+ghost use Rattle.journal.specs.Refusals.{IsNotRoom, CellMissing};
+ghost use Rattle.journal.specs.Steps.{IsOther, IsNoOther, ShowsImage, ShowsWriter, IsFreeCell, RefusesCell};
+ghost use Rattle.journal.specs.Outcomes.{arrays, AreSame, LeavesRest, Updates, RefusesUpdate, Undoes, RefusesUndo, IsNewest, MayUndo, HasFewPending, RefusesNewest, NamesHolder, RefusesHolder};
 
 use crate::entries::{Head, PageEntry, PendingEntry, TransactionEntry};
-use crate::framing::{compensation_size, put_compensation, put_plain, put_update, update_size};
+use crate::framing::{compensation_size, put_compensation, put_update, update_size};
 use crate::image::Image;
 use crate::page_entry::{change_cell, is_cell};
 use crate::refusal::Refusal;
 use crate::table::{
-    Need, bound, find, finish, newest, note_state, note_undo, note_update, place_for, room_for_one,
-    used,
+    Need, bound, find, newest, note_undo, note_update, place_for, room_for_one, used,
 };
 use page::SLOTS;
-use wal::PLAIN_FRAME;
 
 /// The LSN after this one. The only error is `LogFull`, if there is none.
 pub fn next_lsn(last: u64) -> Result<u64, Refusal>
@@ -85,10 +70,8 @@ pub fn room_for(frame: &[u8], size: usize) -> Result<(), Refusal>
 
 /// Whether the last writer of a cell, 0 for none, is another unfinished transaction.
 fn is_other(entries: &[TransactionEntry], writer: u32, tx: u32) -> bool
-    ensures held { result ≡ true → (ps : List PendingEntry) → IsTable entries.now
-        → (0 < writer) × (writer ≢ tx) × (is_some (kept_of entries.now ps writer) ≡ true) }
-    ensures free { result ≡ false → (ps : List PendingEntry) → IsTable entries.now
-        → IsFreeFor (kept_of entries.now ps) (unless_0 writer) tx }
+    ensures held { result ≡ true → IsOther entries.now writer tx }
+    ensures free { result ≡ false → IsNoOther entries.now writer tx }
 {
     if writer == 0 || writer == tx {
         return false;
@@ -101,10 +84,8 @@ fn is_other(entries: &[TransactionEntry], writer: u32, tx: u32) -> bool
 fn cell_at<'a>(pages: &'a [PageEntry], page: u32, slot: u8) -> Result<(&'a Image, u32), Refusal>
     ensures page { OnOk result (page < length pages.now) }
     ensures slot { OnOk result (slot < SLOTS) }
-    ensures value { IfOk result (λ c. (d : PageState) → image_of c.0.now
-        ≡ slice_index_or (slice_index_or (map page_state_of pages.now) page d).page.slots slot None) }
-    ensures writer { IfOk result (λ c. (d : PageState) → unless_0 c.1
-        ≡ slice_index_or (slice_index_or (map page_state_of pages.now) page d).writers slot None) }
+    ensures value { IfOk result (λ c. ShowsImage pages.now page slot c.0.now) }
+    ensures writer { IfOk result (λ c. ShowsWriter pages.now page slot c.1) }
     ensures err { IfErr result (CellMissing (length pages.now) page slot) }
 {
     if page as usize >= pages.len() {
@@ -127,14 +108,10 @@ fn value_for<'a>(
 ) -> Result<&'a Image, Refusal>
     ensures page { OnOk result (page < length pages.now) }
     ensures slot { OnOk result (slot < SLOTS) }
-    ensures value { IfOk result (λ v. (d : PageState) → image_of v.now
-        ≡ slice_index_or (slice_index_or (map page_state_of pages.now) page d).page.slots slot None) }
-    ensures free { OnOk result ((ps : List PendingEntry) (d : PageState) → IsTable entries.now
-        → IsFreeFor (kept_of entries.now ps)
-        (slice_index_or (slice_index_or (map page_state_of pages.now) page d).writers slot None) tx) }
+    ensures value { IfOk result (λ v. ShowsImage pages.now page slot v.now) }
+    ensures free { OnOk result (IsFreeCell pages.now entries.now tx page slot) }
     ensures kind { IfErr result IsNotRoom }
-    ensures err { IfErr result (λ e. (ps : List PendingEntry) → IsTable entries.now
-        → CellRefused (map page_state_of pages.now) (kept_of entries.now ps) tx page slot e) }
+    ensures err { IfErr result (RefusesCell pages.now entries.now tx page slot) }
 {
     let (image, writer) = cell_at(pages, page, slot)?;
     if is_other(entries, writer, tx) {
@@ -156,12 +133,8 @@ pub fn holder(
     page: u32,
     slot: u8,
 ) -> Result<Option<u32>, Refusal>
-    ensures held { IfOk result (λ holder. (base : BasePages) (run : Run) (ps : List PendingEntry)
-        → IsJournal base run head.now transactions.now pages.now ps
-        → IsHolder run page slot holder) }
-    ensures refused { IfErr result (λ e. (base : BasePages) (run : Run) (ps : List PendingEntry)
-        → IsJournal base run head.now transactions.now pages.now ps
-        → CellMissing (count_of run) page slot e) }
+    ensures held { IfOk result (NamesHolder head.now transactions.now pages.now page slot) }
+    ensures refused { IfErr result (RefusesHolder head.now transactions.now pages.now page slot) }
 {
     let count = used(head.transactions, transactions.len())?;
     let (_, writer) = cell_at(pages, page, slot)?;
@@ -200,37 +173,17 @@ pub fn update(
     after: &Image,
     out: &mut [u8],
 ) -> Result<usize, Refusal>
-    ensures ok { OnOk result ((base : BasePages) (run : Run)
-        → IsJournal base run head.old transactions.old pages.old pending.old
-        → IsJournal base (appended run (update_by base run tx page slot (image_of after.now)))
-        head.new transactions.new pages.new pending.new) }
-    ensures written { IfOk result (λ size. (base : BasePages) (run : Run)
-        → IsJournal base run head.old transactions.old pages.old pending.old
-        → IsWritten (update_by base run tx page slot (image_of after.now)) (head.old.last + 1)
-        out.old out.new size) }
-    ensures others { OnOk result ((base : BasePages) (run : Run)
-        → IsJournal base run head.old transactions.old pages.old pending.old
-        → LeavesOthers tx (take head.old.transactions transactions.old)
-        (take head.old.pending pending.old)
-        (take head.new.transactions transactions.new) (take head.new.pending pending.new)) }
-    ensures size { IfOk result (λ size. size ≤ length out.old) }
-    ensures short { IfOk result (λ size. size ≤ LONGEST_CHANGE) }
-    ensures enough { LONGEST_CHANGE ≤ length out.old → IfErr result IsNotRoom }
+    ensures ok { IfOk result (Updates (arrays head.old transactions.old pages.old pending.old)
+        (arrays head.new transactions.new pages.new pending.new)
+        tx page slot after.now out.old out.new) }
+    ensures rest { LeavesRest head.old head.new }
     ensures count { head.new.transactions ≡ head.old.transactions }
-    ensures updates { OnOk result (head.new.pending ≤ length pending.old) }
-    ensures lsn { OnOk result (head.new.last ≡ head.old.last + 1) }
-    ensures unforced { head.new.written ≡ head.old.written }
-    ensures next { head.new.next ≡ head.old.next }
-    ensures head { OnErr result (head.new ≡ head.old) }
-    ensures transactions { OnErr result (transactions.new ≡ transactions.old) }
-    ensures pages { OnErr result (pages.new ≡ pages.old) }
-    ensures pending { OnErr result (pending.new ≡ pending.old) }
-    ensures out { OnErr result (out.new ≡ out.old) }
-    ensures refused { IfErr result (λ e. (base : BasePages) (run : Run)
-        → IsJournal base run head.old transactions.old pages.old pending.old
-        → UpdateRefused run tx page slot after.now
-        (length (frame (update_by base run tx page slot (image_of after.now)) (head.old.last + 1)))
-        (length out.old) head.old transactions.old pending.old e) }
+    ensures enough { LONGEST_CHANGE ≤ length out.old → IfErr result IsNotRoom }
+    ensures same { OnErr result (AreSame (arrays head.old transactions.old pages.old pending.old)
+        (arrays head.new transactions.new pages.new pending.new) out.old out.new) }
+    ensures refused { IfErr result (RefusesUpdate
+        (arrays head.old transactions.old pages.old pending.old)
+        tx page slot after.now (length out.old)) }
 {
     if !after.is_valid() {
         return Err(Refusal::BadImage);
@@ -279,36 +232,16 @@ pub fn undo(
     tx: u32,
     out: &mut [u8],
 ) -> Result<usize, Refusal>
-    ensures ok { IfOk result (λ size. (base : BasePages) (run : Run)
-        → IsJournal base run head.old transactions.old pages.old pending.old
-        → (r : LogRecord) × IsUndo run tx r
-        × IsJournal base (appended run r) head.new transactions.new pages.new pending.new
-        × IsWritten r (head.old.last + 1) out.old out.new size) }
-    ensures others { OnOk result ((base : BasePages) (run : Run)
-        → IsJournal base run head.old transactions.old pages.old pending.old
-        → LeavesOthers tx (take head.old.transactions transactions.old)
-        (take head.old.pending pending.old)
-        (take head.new.transactions transactions.new) (take head.new.pending pending.new)) }
-    ensures size { IfOk result (λ size. size ≤ length out.old) }
-    ensures owes { OnOk result ((base : BasePages) (run : Run)
-        → IsJournal base run head.old transactions.old pages.old pending.old
-        → OwesLess (take head.old.transactions transactions.old) (take head.old.pending pending.old)
-        (take head.new.transactions transactions.new) (take head.new.pending pending.new)) }
-    ensures short { IfOk result (λ size. size ≤ LONGEST_UNDO) }
-    ensures enough { LONGEST_UNDO ≤ length out.old → IfErr result IsNotRoom }
+    ensures ok { IfOk result (Undoes (arrays head.old transactions.old pages.old pending.old)
+        (arrays head.new transactions.new pages.new pending.new) tx out.old out.new) }
+    ensures rest { LeavesRest head.old head.new }
     ensures count { head.new.transactions ≡ head.old.transactions }
     ensures updates { head.new.pending ≡ head.old.pending }
-    ensures lsn { OnOk result (head.new.last ≡ head.old.last + 1) }
-    ensures unforced { head.new.written ≡ head.old.written }
-    ensures next { head.new.next ≡ head.old.next }
-    ensures head { OnErr result (head.new ≡ head.old) }
-    ensures transactions { OnErr result (transactions.new ≡ transactions.old) }
-    ensures pages { OnErr result (pages.new ≡ pages.old) }
-    ensures pending { OnErr result (pending.new ≡ pending.old) }
-    ensures out { OnErr result (out.new ≡ out.old) }
-    ensures refused { IfErr result (λ e. (base : BasePages) (run : Run)
-        → IsJournal base run head.old transactions.old pages.old pending.old
-        → UndoRefused run tx (length out.old) e) }
+    ensures enough { LONGEST_UNDO ≤ length out.old → IfErr result IsNotRoom }
+    ensures same { OnErr result (AreSame (arrays head.old transactions.old pages.old pending.old)
+        (arrays head.new transactions.new pages.new pending.new) out.old out.new) }
+    ensures refused { IfErr result (RefusesUndo
+        (arrays head.old transactions.old pages.old pending.old) tx (length out.old)) }
 {
     let count = used(head.transactions, transactions.len())?;
     let _count = used(head.pending, pending.len())?;
@@ -341,236 +274,6 @@ pub fn undo(
     Ok(size)
 }
 
-/// An active or prepared transaction commits: appends a commit record, whose LSN is `head.last`
-/// after the call. Writes its frame to the front of `out`, and returns the frame's length, 25
-/// bytes. The transaction has finished, and its cells are free. It needs no end record. The commit
-/// is durable when the log is on the disk up to this LSN.
-///
-/// Refused, and nothing changes:
-/// - UnknownTransaction: no transaction with this number has begun and not finished.
-/// - Forbidden: the transaction is aborting.
-/// - NoFrameRoom: `out` has fewer than 25 bytes.
-/// - BadArrays, LogFull: the arrays are not those of a journal.
-pub fn commit(
-    head: &mut Head,
-    transactions: &mut [TransactionEntry],
-    tx: u32,
-    out: &mut [u8],
-) -> Result<usize, Refusal>
-    ensures ok { OnOk result ((base : BasePages) (run : Run) (pages : List PageEntry)
-        (pending : List PendingEntry)
-        → IsJournal base run head.old transactions.old pages pending
-        → IsJournal base (appended run (Commit (plain_by run tx))) head.new transactions.new pages
-        pending) }
-    ensures written { IfOk result (λ size. (base : BasePages) (run : Run) (pages : List PageEntry)
-        (pending : List PendingEntry)
-        → IsJournal base run head.old transactions.old pages pending
-        → IsWritten (Commit (plain_by run tx)) (head.old.last + 1) out.old out.new size) }
-    ensures others { OnOk result (OthersStay head.old transactions.old head.new transactions.new tx) }
-    ensures size { IfOk result (λ size. size ≤ length out.old) }
-    ensures owes { OnOk result ((base : BasePages) (run : Run) (pages : List PageEntry)
-        (pending : List PendingEntry)
-        → IsJournal base run head.old transactions.old pages pending
-        → OwesLess (take head.old.transactions transactions.old) (take head.old.pending pending)
-        (take head.new.transactions transactions.new) (take head.new.pending pending)) }
-    ensures short { IfOk result (λ size. size ≡ PLAIN_FRAME) }
-    ensures enough { PLAIN_FRAME ≤ length out.old → IfErr result IsNotRoom }
-    ensures count { head.new.transactions ≤ head.old.transactions }
-    ensures updates { head.new.pending ≡ head.old.pending }
-    ensures lsn { OnOk result (head.new.last ≡ head.old.last + 1) }
-    ensures unforced { head.new.written ≡ head.old.written }
-    ensures next { head.new.next ≡ head.old.next }
-    ensures head { OnErr result (head.new ≡ head.old) }
-    ensures transactions { OnErr result (transactions.new ≡ transactions.old) }
-    ensures out { OnErr result (out.new ≡ out.old) }
-    ensures refused { IfErr result (λ e. (base : BasePages) (run : Run) (pages : List PageEntry)
-        (pending : List PendingEntry)
-        → IsJournal base run head.old transactions.old pages pending
-        → RefusedFor NotAborting run tx PLAIN_FRAME (length out.old) e) }
-{
-    let count = used(head.transactions, transactions.len())?;
-    let place = place_for(&transactions[..count], tx, Need::NotAborting)?;
-    let lsn = next_lsn(head.last)?;
-    room_for(out, PLAIN_FRAME)?;
-    put_plain(out, lsn, 3, tx, transactions[place].last);
-    finish(transactions, place, count);
-    head.transactions = count - 1;
-    head.last = lsn;
-    Ok(PLAIN_FRAME)
-}
-
-/// An active or prepared transaction aborts: appends an abort record, whose LSN is `head.last`
-/// after the call. Writes its frame to the front of `out`, and returns the frame's length, 25
-/// bytes. From then on the transaction can only be undone and end. A prepared transaction has to
-/// abort before it is undone; an active one need not.
-///
-/// Refused, and nothing changes:
-/// - UnknownTransaction: no transaction with this number has begun and not finished.
-/// - Forbidden: the transaction is aborting already.
-/// - NoFrameRoom: `out` has fewer than 25 bytes.
-/// - BadArrays, LogFull: the arrays are not those of a journal.
-pub fn abort(
-    head: &mut Head,
-    transactions: &mut [TransactionEntry],
-    tx: u32,
-    out: &mut [u8],
-) -> Result<usize, Refusal>
-    ensures ok { OnOk result ((base : BasePages) (run : Run) (pages : List PageEntry)
-        (pending : List PendingEntry)
-        → IsJournal base run head.old transactions.old pages pending
-        → IsJournal base (appended run (Abort (plain_by run tx))) head.new transactions.new pages
-        pending) }
-    ensures written { IfOk result (λ size. (base : BasePages) (run : Run) (pages : List PageEntry)
-        (pending : List PendingEntry)
-        → IsJournal base run head.old transactions.old pages pending
-        → IsWritten (Abort (plain_by run tx)) (head.old.last + 1) out.old out.new size) }
-    ensures others { OnOk result (OthersStay head.old transactions.old head.new transactions.new tx) }
-    ensures size { IfOk result (λ size. size ≤ length out.old) }
-    ensures owes { OnOk result ((base : BasePages) (run : Run) (pages : List PageEntry)
-        (pending : List PendingEntry)
-        → IsJournal base run head.old transactions.old pages pending
-        → OwesLess (take head.old.transactions transactions.old) (take head.old.pending pending)
-        (take head.new.transactions transactions.new) (take head.new.pending pending)) }
-    ensures short { IfOk result (λ size. size ≡ PLAIN_FRAME) }
-    ensures enough { PLAIN_FRAME ≤ length out.old → IfErr result IsNotRoom }
-    ensures count { head.new.transactions ≡ head.old.transactions }
-    ensures updates { head.new.pending ≡ head.old.pending }
-    ensures lsn { OnOk result (head.new.last ≡ head.old.last + 1) }
-    ensures unforced { head.new.written ≡ head.old.written }
-    ensures next { head.new.next ≡ head.old.next }
-    ensures head { OnErr result (head.new ≡ head.old) }
-    ensures transactions { OnErr result (transactions.new ≡ transactions.old) }
-    ensures out { OnErr result (out.new ≡ out.old) }
-    ensures refused { IfErr result (λ e. (base : BasePages) (run : Run) (pages : List PageEntry)
-        (pending : List PendingEntry)
-        → IsJournal base run head.old transactions.old pages pending
-        → RefusedFor NotAborting run tx PLAIN_FRAME (length out.old) e) }
-{
-    let count = used(head.transactions, transactions.len())?;
-    let place = place_for(&transactions[..count], tx, Need::NotAborting)?;
-    let lsn = next_lsn(head.last)?;
-    room_for(out, PLAIN_FRAME)?;
-    put_plain(out, lsn, 4, tx, transactions[place].last);
-    note_state(transactions, place, 1, lsn);
-    head.last = lsn;
-    Ok(PLAIN_FRAME)
-}
-
-/// An active or aborting transaction without pending updates ends: appends an end record, whose LSN
-/// is `head.last` after the call. Writes its frame to the front of `out`, and returns the frame's
-/// length, 25 bytes. The transaction has finished, and its cells are free.
-///
-/// Refused, and nothing changes:
-/// - UnknownTransaction: no transaction with this number has begun and not finished.
-/// - Forbidden: the transaction is prepared.
-/// - StillPending: the transaction has pending updates.
-/// - NoFrameRoom: `out` has fewer than 25 bytes.
-/// - BadArrays, LogFull: the arrays are not those of a journal.
-pub fn end(
-    head: &mut Head,
-    transactions: &mut [TransactionEntry],
-    pending: &[PendingEntry],
-    tx: u32,
-    out: &mut [u8],
-) -> Result<usize, Refusal>
-    ensures ok { OnOk result ((base : BasePages) (run : Run) (pages : List PageEntry)
-        → IsJournal base run head.old transactions.old pages pending.now
-        → IsJournal base (appended run (End (plain_by run tx))) head.new transactions.new pages
-        pending.now) }
-    ensures written { IfOk result (λ size. (base : BasePages) (run : Run) (pages : List PageEntry)
-        → IsJournal base run head.old transactions.old pages pending.now
-        → IsWritten (End (plain_by run tx)) (head.old.last + 1) out.old out.new size) }
-    ensures others { OnOk result (OthersStay head.old transactions.old head.new transactions.new tx) }
-    ensures size { IfOk result (λ size. size ≤ length out.old) }
-    ensures owes { OnOk result ((base : BasePages) (run : Run) (pages : List PageEntry)
-        → IsJournal base run head.old transactions.old pages pending.now
-        → OwesLess (take head.old.transactions transactions.old) (take head.old.pending pending.now)
-        (take head.new.transactions transactions.new) (take head.new.pending pending.now)) }
-    ensures short { IfOk result (λ size. size ≡ PLAIN_FRAME) }
-    ensures enough { PLAIN_FRAME ≤ length out.old → IfErr result IsNotRoom }
-    ensures count { head.new.transactions ≤ head.old.transactions }
-    ensures updates { head.new.pending ≡ head.old.pending }
-    ensures lsn { OnOk result (head.new.last ≡ head.old.last + 1) }
-    ensures unforced { head.new.written ≡ head.old.written }
-    ensures next { head.new.next ≡ head.old.next }
-    ensures head { OnErr result (head.new ≡ head.old) }
-    ensures transactions { OnErr result (transactions.new ≡ transactions.old) }
-    ensures out { OnErr result (out.new ≡ out.old) }
-    ensures refused { IfErr result (λ e. (base : BasePages) (run : Run) (pages : List PageEntry)
-        → IsJournal base run head.old transactions.old pages pending.now
-        → EndRefused run tx (length out.old) e) }
-{
-    let count = used(head.transactions, transactions.len())?;
-    let _count = used(head.pending, pending.len())?;
-    let place = place_for(&transactions[..count], tx, Need::NotPrepared)?;
-    let below = bound(transactions[place], head.pending);
-    if newest(&pending[..below], tx).is_some() {
-        return Err(Refusal::StillPending);
-    }
-    let lsn = next_lsn(head.last)?;
-    room_for(out, PLAIN_FRAME)?;
-    put_plain(out, lsn, 5, tx, transactions[place].last);
-    finish(transactions, place, count);
-    head.transactions = count - 1;
-    head.last = lsn;
-    Ok(PLAIN_FRAME)
-}
-
-/// An active transaction prepares to commit: appends a prepare record, whose LSN is `head.last`
-/// after the call. Writes its frame to the front of `out`, and returns the frame's length, 25
-/// bytes. From then on the transaction can only commit or abort, and holds its cells until it has
-/// finished. It is in doubt after a crash if the log is on the disk up to this LSN.
-///
-/// Refused, and nothing changes:
-/// - LogFull: too few LSNs are left for one more record and the rollback of all that may be
-///   unfinished.
-/// - BadArrays: the array is shorter than the head says.
-/// - UnknownTransaction: no transaction with this number has begun and not finished.
-/// - Forbidden: the transaction is aborting, or prepared already.
-/// - NoFrameRoom: `out` has fewer than 25 bytes.
-pub fn prepare(
-    head: &mut Head,
-    transactions: &mut [TransactionEntry],
-    tx: u32,
-    out: &mut [u8],
-) -> Result<usize, Refusal>
-    ensures ok { OnOk result ((base : BasePages) (run : Run) (pages : List PageEntry)
-        (pending : List PendingEntry)
-        → IsJournal base run head.old transactions.old pages pending
-        → IsJournal base (appended run (Prepare (plain_by run tx))) head.new transactions.new pages
-        pending) }
-    ensures written { IfOk result (λ size. (base : BasePages) (run : Run) (pages : List PageEntry)
-        (pending : List PendingEntry)
-        → IsJournal base run head.old transactions.old pages pending
-        → IsWritten (Prepare (plain_by run tx)) (head.old.last + 1) out.old out.new size) }
-    ensures others { OnOk result (OthersStay head.old transactions.old head.new transactions.new tx) }
-    ensures size { IfOk result (λ size. size ≤ length out.old) }
-    ensures short { IfOk result (λ size. size ≡ PLAIN_FRAME) }
-    ensures enough { PLAIN_FRAME ≤ length out.old → IfErr result IsNotRoom }
-    ensures count { head.new.transactions ≡ head.old.transactions }
-    ensures updates { head.new.pending ≡ head.old.pending }
-    ensures lsn { OnOk result (head.new.last ≡ head.old.last + 1) }
-    ensures unforced { head.new.written ≡ head.old.written }
-    ensures next { head.new.next ≡ head.old.next }
-    ensures head { OnErr result (head.new ≡ head.old) }
-    ensures transactions { OnErr result (transactions.new ≡ transactions.old) }
-    ensures out { OnErr result (out.new ≡ out.old) }
-    ensures refused { IfErr result (λ e. (base : BasePages) (run : Run) (pages : List PageEntry)
-        (pending : List PendingEntry)
-        → IsJournal base run head.old transactions.old pages pending
-        → PrepareRefused run tx head.old (length out.old) e) }
-{
-    let lsn = next_lsn(head.last)?;
-    let count = used(head.transactions, transactions.len())?;
-    reserve(head.last, 1, count, head.pending)?;
-    let place = place_for(&transactions[..count], tx, Need::Working)?;
-    room_for(out, PLAIN_FRAME)?;
-    put_plain(out, lsn, 8, tx, transactions[place].last);
-    note_state(transactions, place, 2, lsn);
-    head.last = lsn;
-    Ok(PLAIN_FRAME)
-}
-
 /// The LSN of the newest pending update of a transaction, 0 if it has none.
 ///
 /// Errors: UnknownTransaction and Forbidden, as those of [`undo`].
@@ -580,17 +283,10 @@ pub fn newest_pending(
     pending: &[PendingEntry],
     tx: u32,
 ) -> Result<u64, Refusal>
-    ensures newest { IfOk result (λ lsn. (base : BasePages) (run : Run) (pages : List PageEntry)
-        → IsJournal base run head.now transactions.now pages pending.now
-        → lsn ≡ newest_of (pending_lsns tx (log_of run))) }
-    ensures free { OnOk result ((base : BasePages) (run : Run) (pages : List PageEntry)
-        → IsJournal base run head.now transactions.now pages pending.now → CanUndo run tx) }
-    ensures few { OnOk result ((base : BasePages) (run : Run) (pages : List PageEntry)
-        → IsJournal base run head.now transactions.now pages pending.now
-        → length (pending_lsns tx (log_of run)) ≤ head.now.pending) }
-    ensures refused { IfErr result (λ e. (base : BasePages) (run : Run) (pages : List PageEntry)
-        → IsJournal base run head.now transactions.now pages pending.now
-        → StepRefused NotPrepared run tx e) }
+    ensures newest { IfOk result (IsNewest head.now transactions.now pending.now tx) }
+    ensures free { OnOk result (MayUndo head.now transactions.now pending.now tx) }
+    ensures few { OnOk result (HasFewPending head.now transactions.now pending.now tx) }
+    ensures refused { IfErr result (RefusesNewest head.now transactions.now pending.now tx) }
 {
     let count = used(head.transactions, transactions.len())?;
     let _count = used(head.pending, pending.len())?;

@@ -1,24 +1,18 @@
 //! `Journal`: a journal that owns its arrays, and keeps the frames until they are taken.
 
-ghost use Rattle.std.specs.Prelude.{◌≡◌, ◌≤◌, ◌<◌, ◌+◌, ◌*◌, ◌⊎◌, ℕ, [], ◌++◌, length, take, true, false, All, OnOk, OnErr, IfOk, IfErr, IfSome, Option, None, IsOkUnless};
+ghost use Rattle.std.specs.Prelude.{◌≡◌, ◌≤◌, ◌<◌, ◌+◌, ◌*◌, [], length, take, true, false, All, OnOk, OnErr, IfOk, IfErr, IfSome, None, IsOkUnless};
 ghost use Rattle.page.specs.declared.profile.TheConstants.{TRANSACTIONS};
 ghost use Rattle.log_laws.specs.Records.{Commit, Abort, End, Prepare, lsn_before, last_lsn, history};
-ghost use Rattle.log_laws.specs.Meaning.{BasePages, pending};
-ghost use Rattle.log_laws.specs.Pages.{base_pages};
 ghost use Rattle.journal.specs.declared.refusal.Refusal.TheVariants.{NoResource, NoSuchLsn};
 ghost use Rattle.journal.specs.declared.framing.TheConstants.{LONGEST_UNDO};
 ghost use Rattle.journal.specs.declared.table.Need.TheVariants.{NotAborting, NotPrepared};
-ghost use Rattle.journal.specs.declared.entries.TransactionEntry.{TransactionEntry};
-ghost use Rattle.journal.specs.declared.entries.PendingEntry.{PendingEntry};
-ghost use Rattle.journal.specs.Arrays.{kept_of, Reaches, IsNoted, IsTable, AllLive};
-ghost use Rattle.journal.specs.Runs.{Run, reported, opened, empty_log, MayOpen, count_of, log_of};
+ghost use Rattle.journal.specs.Arrays.{Reaches, IsNoted, BeginsAs, HasRoomFor};
 ghost use Rattle.journal.specs.State.{update_by, plain_by};
-ghost use Rattle.journal.specs.PageStates.{IsCurrent, IsUpToDate};
-ghost use Rattle.journal.specs.Rollbacks.{newest_of, CanUndo};
-ghost use Rattle.journal.specs.Opened.{OwnNewRefused, OwnOpenRefused, OpenRefusedFor};
-ghost use Rattle.journal.specs.Holders.{IsHolder};
-ghost use Rattle.journal.specs.Refusals.{CellMissing, CancelRefused, ReportRefused, PageToWriteRefused, StepRefused, OwnBeginRefused, OwnUpdateRefused, OwnPrepareRefused, OwnUndoRefused, OwnEndRefused, OwnCheckpointRefused};
-ghost use Rattle.journal.specs.JournalState.{JournalState, Keeps, Appends, StaysKept, LeavesRest, OthersStay, HasBegun, IsGone, HasNoRecord, known_up_to, Undoes, TakesCheckpoint, RollsBackTo, RollsBackAll};
+ghost use Rattle.journal.specs.PageStates.{IsUpToDate};
+ghost use Rattle.journal.specs.Opened.{OwnNewRefused};
+ghost use Rattle.journal.specs.TurnsTaken.{is_owed};
+ghost use Rattle.journal.specs.Refusals.{StepRefused, OwnBeginRefused, OwnPrepareRefused, OwnUndoRefused, OwnEndRefused, OwnCheckpointRefused};
+ghost use Rattle.journal.specs.JournalState.{Appends, StaysKept, StaysSame, LeavesRest, OthersStay, HasBegun, IsGone, HasNoRecord, known_up_to, Undoes, TakesCheckpoint, RollsBackTo, RollsBackAll, AppendsTurn, RefusesTurn, Refuses, RefusesHolder, RefusesPageToWrite, RefusesReport, RefusesCancel, RefusesUpdate, RefusesOpenWith, RefusesOpen, IsNew, ContinuesLog, ShowsPage, IsLogAhead, Reports, NamesHolder, IsNewest, MayUndo, HasFewPending};
 
 use crate::checkpoints::LONGEST_CHECKPOINT;
 use crate::entries::{Head, PageEntry, PendingEntry, TransactionEntry};
@@ -26,7 +20,8 @@ use crate::framing::{LONGEST_CHANGE, LONGEST_UNDO};
 use crate::image::Image;
 use crate::refusal::Refusal;
 use crate::table::has_dead;
-use crate::{beginning, checkpoints, disk, opening, operations, reopening};
+use crate::turns::Turn;
+use crate::{beginning, checkpoints, disk, opening, operations, reopening, turns};
 use page::{Page, Store, TRANSACTIONS, Value};
 use std::alloc::Global;
 use std::marker::Model;
@@ -123,11 +118,10 @@ fn make_pending_room(
     held: usize,
     needed: usize,
 ) -> Result<(), Refusal>
-    ensures kept { (n : ℕ) → n ≤ length pending.old.items
-        → take n pending.new.items ≡ take n pending.old.items }
+    ensures kept { BeginsAs pending.old.items pending.new.items }
     ensures larger { length pending.old.items ≤ length pending.new.items }
-    ensures ok { OnOk result (0 < length pending.old.items → IsTable entries.now
-        → (held < length pending.new.items) ⊎ (AllLive entries.now pending.old.items → ⊥)) }
+    ensures ok { OnOk result
+        (HasRoomFor entries.now held pending.old.items pending.new.items) }
     ensures err { IsOkUnless result NoResource }
 {
     let size = pending.len();
@@ -184,10 +178,8 @@ impl Journal {
     /// Errors:
     /// - NoSuchPage, NoSuchSlot: there is no such page or slot.
     pub fn holder(&self, page: u32, slot: u8) -> Result<Option<u32>, Refusal>
-        ensures held { IfOk result (λ holder. (base : BasePages) (run : Run)
-            → Keeps base run self.now → IsHolder run page slot holder) }
-        ensures refused { IfErr result (λ e. (base : BasePages) (run : Run)
-            → Keeps base run self.now → CellMissing (count_of run) page slot e) }
+        ensures held { IfOk result (NamesHolder self.now page slot) }
+        ensures refused { IfErr result (RefusesHolder self.now page slot) }
     {
         operations::holder(&self.head, &self.transactions, &self.pages, page, slot)
     }
@@ -230,8 +222,7 @@ impl Journal {
 
     /// The page with this number as the log has made it so far. `None` if there is no such page.
     pub fn page(&self, number: u32) -> Option<Page>
-        ensures current { IfSome result (λ page. (base : BasePages) (run : Run)
-            → Keeps base run self.now → IsCurrent base run number page) }
+        ensures current { IfSome result (ShowsPage self.now number) }
         ensures none { result ≡ None → length self.now.pages ≤ number }
     {
         let pages = self.pages.as_slice();
@@ -248,13 +239,9 @@ impl Journal {
     /// - NoSuchPage: there is no such page.
     /// - LogNotWritten: `log_written` has not reported the page's PageLSN, which is this, or a larger one.
     pub fn page_to_write(&self, number: u32) -> Result<Page, Refusal>
-        ensures current { IfOk result (λ page. (base : BasePages) (run : Run)
-            → Keeps base run self.now → IsCurrent base run number page) }
-        ensures ahead { IfOk result (λ page. (base : BasePages) (run : Run)
-            → Keeps base run self.now → page.lsn ≤ self.now.head.written) }
-        ensures refused { IfErr result (λ e. (base : BasePages) (run : Run)
-            → Keeps base run self.now
-            → PageToWriteRefused base run self.now.head.written number e) }
+        ensures current { IfOk result (ShowsPage self.now number) }
+        ensures ahead { IfOk result (IsLogAhead self.now) }
+        ensures refused { IfErr result (RefusesPageToWrite self.now number) }
     {
         disk::page_to_write(&self.head, &self.pages, number)?;
         match self.page(number) {
@@ -269,14 +256,12 @@ impl Journal {
     /// - NoSuchPage: there is no such page.
     /// - NoSuchLsn: the page's PageLSN is below this one.
     pub fn page_written(&mut self, number: u32, page_lsn: u64) -> Result<(), Refusal>
-        ensures ok { OnOk result ((base : BasePages) (run : Run) → Keeps base run self.old
-            → Keeps base (reported run number page_lsn) self.new) }
+        ensures ok { OnOk result (Reports self.old self.new number page_lsn) }
         ensures known { OnOk result (Reaches self.old.pages number page_lsn) }
         ensures noted { OnOk result (IsNoted self.old.pages self.new.pages number page_lsn) }
         ensures rest { self.new ≡ record self.old { pages = self.new.pages } }
         ensures kept { OnErr result (self.new ≡ self.old) }
-        ensures refused { IfErr result (λ e. (base : BasePages) (run : Run)
-            → Keeps base run self.old → ReportRefused base run number page_lsn e) }
+        ensures refused { IfErr result (RefusesReport self.old number page_lsn) }
     {
         disk::page_written(&mut self.pages, number, page_lsn)?;
         Ok(())
@@ -296,9 +281,7 @@ impl Journal {
         ensures others { OnOk result (OthersStay self.old self.new tx) }
         ensures rest { LeavesRest self.old self.new }
         ensures kept { OnErr result (self.new ≡ self.old) }
-        ensures refused { IfErr result (λ e. (base : BasePages) (run : Run)
-            → Keeps base run self.old
-            → CancelRefused run (kept_of self.old.transactions self.old.pending) tx e) }
+        ensures refused { IfErr result (RefusesCancel self.old tx) }
     {
         beginning::cancel(&mut self.head, &mut self.transactions, tx)?;
         Ok(())
@@ -313,8 +296,7 @@ impl Journal {
     /// - PageAhead: a page has a PageLSN above the base LSN.
     /// - NoResource: memory was refused.
     pub fn new(alloc: Global, begins: LogStart, store: &Store) -> Result<Journal, Refusal>
-        ensures ok { IfOk result (Keeps (base_pages store.now.pages)
-            (opened (empty_log begins) store.now)) }
+        ensures ok { IfOk result (IsNew begins store.now) }
         ensures written { IfOk result (λ j. j.head.written ≡ lsn_before begins) }
         ensures unused { IfOk result (λ j. j.transactions ≡ []) }
         ensures none { IfOk result (λ j. j.frames ≡ []) }
@@ -343,13 +325,11 @@ impl Journal {
     /// Opens the journal that continues a log, with room for this many pending updates.
     fn open_with(alloc: Global, log: &Log, store: &Store, room: usize) -> Result<Journal, Refusal>
         requires { 0 < room }
-        ensures ok { IfOk result (λ j. (base : BasePages) → MayOpen base log.now store.now
-            → Keeps base (opened log.now store.now) j) }
+        ensures ok { IfOk result (ContinuesLog log.now store.now) }
         ensures written { IfOk result (λ j. j.head.written ≡ last_lsn (history log.now)) }
         ensures current { OnOk result (All (IsUpToDate (history log.now)) store.now.pages) }
         ensures none { IfOk result (λ j. j.frames ≡ []) }
-        ensures refused { IfErr result (λ e. (base : BasePages) → MayOpen base log.now store.now
-            → OwnOpenRefused log.now store.now room e) }
+        ensures refused { IfErr result (RefusesOpenWith log.now store.now room) }
     {
         let mut transactions = vec![in alloc; TransactionEntry::blank(); TRANSACTIONS]?;
         let mut pending = vec![in alloc; PendingEntry::blank(); room]?;
@@ -385,13 +365,11 @@ impl Journal {
     /// - LogFull: too few LSNs are left for the rollback of what is unfinished.
     /// - NoResource: memory was refused.
     pub fn open(alloc: Global, log: &Log, store: &Store) -> Result<Journal, Refusal>
-        ensures ok { IfOk result (λ j. (base : BasePages) → MayOpen base log.now store.now
-            → Keeps base (opened log.now store.now) j) }
+        ensures ok { IfOk result (ContinuesLog log.now store.now) }
         ensures written { IfOk result (λ j. j.head.written ≡ last_lsn (history log.now)) }
         ensures current { OnOk result (All (IsUpToDate (history log.now)) store.now.pages) }
         ensures none { IfOk result (λ j. j.frames ≡ []) }
-        ensures refused { IfErr result (λ e. (base : BasePages) → MayOpen base log.now store.now
-            → OpenRefusedFor log.now store.now e) }
+        ensures refused { IfErr result (RefusesOpen log.now store.now) }
     {
         let mut room = PENDING;
         for _ in 0..WIDENINGS {
@@ -423,8 +401,7 @@ impl Journal {
         ensures unforced { self.new.head.written ≡ self.old.head.written }
         ensures taken { self.new.taken ≡ self.old.taken }
         ensures kept { OnErr result (self.new ≡ self.old) }
-        ensures refused { IfErr result (λ e. (base : BasePages) (run : Run)
-            → Keeps base run self.old → OwnBeginRefused self.old.head e) }
+        ensures refused { IfErr result (Refuses self.old (λ _. OwnBeginRefused self.old.head)) }
     {
         let rollback = make_room(&mut self.buffer, self.length, 0, self.pending.len())?;
         let tx = beginning::begin(&mut self.head, &mut self.transactions)?;
@@ -455,8 +432,7 @@ impl Journal {
         ensures rest { LeavesRest self.old self.new }
         ensures others { OnOk result (OthersStay self.old self.new tx) }
         ensures kept { OnErr result (self.new ≡ self.old) }
-        ensures refused { IfErr result (λ e. (base : BasePages) (run : Run)
-            → Keeps base run self.old → OwnUpdateRefused run tx page slot self.old.head e) }
+        ensures refused { IfErr result (RefusesUpdate self.old tx page slot) }
     {
         let entries = &self.transactions[..self.head.transactions];
         let held = self.head.pending;
@@ -498,8 +474,7 @@ impl Journal {
         ensures rest { LeavesRest self.old self.new }
         ensures others { OnOk result (OthersStay self.old self.new tx) }
         ensures kept { OnErr result (self.new ≡ self.old) }
-        ensures refused { IfErr result (λ e. (base : BasePages) (run : Run)
-            → Keeps base run self.old → OwnUndoRefused run tx e) }
+        ensures refused { IfErr result (Refuses self.old (λ run. OwnUndoRefused run tx)) }
     {
         let size = operations::undo(
             &mut self.head,
@@ -516,14 +491,10 @@ impl Journal {
 
     /// The LSN of the newest pending update of a transaction, 0 if it has none.
     fn newest_pending(&self, tx: u32) -> Result<u64, Refusal>
-        ensures newest { IfOk result (λ lsn. (base : BasePages) (run : Run)
-            → Keeps base run self.now → lsn ≡ newest_of (pending tx (log_of run))) }
-        ensures free { OnOk result ((base : BasePages) (run : Run) → Keeps base run self.now
-            → CanUndo run tx) }
-        ensures few { OnOk result ((base : BasePages) (run : Run) → Keeps base run self.now
-            → length (pending tx (log_of run)) ≤ self.now.head.pending) }
-        ensures refused { IfErr result (λ e. (base : BasePages) (run : Run)
-            → Keeps base run self.now → StepRefused NotPrepared run tx e) }
+        ensures newest { IfOk result (IsNewest self.now tx) }
+        ensures free { OnOk result (MayUndo self.now tx) }
+        ensures few { OnOk result (HasFewPending self.now tx) }
+        ensures refused { IfErr result (Refuses self.now (λ run. StepRefused NotPrepared run tx)) }
     {
         operations::newest_pending(&self.head, &self.transactions, &self.pending, tx)
     }
@@ -539,10 +510,8 @@ impl Journal {
         ensures ok { OnOk result (RollsBackTo self.old self.new tx savepoint) }
         ensures rest { LeavesRest self.old self.new }
         ensures others { OnOk result (OthersStay self.old self.new tx) }
-        ensures kept { OnErr result ((base : BasePages) (run : Run) → Keeps base run self.old
-            → self.new ≡ self.old) }
-        ensures refused { IfErr result (λ e. (base : BasePages) (run : Run)
-            → Keeps base run self.old → StepRefused NotPrepared run tx e) }
+        ensures kept { OnErr result (StaysSame self.old self.new) }
+        ensures refused { IfErr result (Refuses self.old (λ run. StepRefused NotPrepared run tx)) }
     {
         let mut newest = self.newest_pending(tx)?;
         let most = self.head.pending;
@@ -567,16 +536,38 @@ impl Journal {
         ensures ok { OnOk result (RollsBackAll self.old self.new tx) }
         ensures rest { LeavesRest self.old self.new }
         ensures others { OnOk result (OthersStay self.old self.new tx) }
-        ensures kept { OnErr result ((base : BasePages) (run : Run) → Keeps base run self.old
-            → self.new ≡ self.old) }
-        ensures refused { IfErr result (λ e. (base : BasePages) (run : Run)
-            → Keeps base run self.old → StepRefused NotPrepared run tx e) }
+        ensures kept { OnErr result (StaysSame self.old self.new) }
+        ensures refused { IfErr result (Refuses self.old (λ run. StepRefused NotPrepared run tx)) }
     {
         if self.newest_pending(tx)? > 0 {
             self.roll_back_to(tx, 0)?;
         }
         let lsn = self.end(tx)?;
         Ok(lsn)
+    }
+
+    /// A transaction commits, aborts or ends: the record is appended, and its LSN is returned. Room for
+    /// its frame is set aside. The errors are those of `commit`, `abort` and `end`.
+    fn take_turn(&mut self, turn: Turn, tx: u32) -> Result<u64, Refusal>
+        requires { is_owed turn ≡ true }
+        ensures ok { OnOk result (AppendsTurn self.old self.new turn tx) }
+        ensures lsn { IfOk result (λ lsn. lsn ≡ self.old.head.last + 1) }
+        ensures rest { LeavesRest self.old self.new }
+        ensures others { OnOk result (OthersStay self.old self.new tx) }
+        ensures kept { OnErr result (self.new ≡ self.old) }
+        ensures refused { IfErr result (RefusesTurn self.old turn tx) }
+    {
+        let size = turns::take_turn(
+            &mut self.head,
+            &mut self.transactions,
+            &self.pending,
+            turn,
+            tx,
+            &mut self.buffer[self.length..],
+        )?;
+        self.length += size;
+        self.reserved = self.reserved.saturating_sub(size);
+        Ok(self.head.last)
     }
 
     /// A transaction that is active or prepared commits: it has finished, and its cells are free. A
@@ -593,18 +584,9 @@ impl Journal {
         ensures rest { LeavesRest self.old self.new }
         ensures others { OnOk result (OthersStay self.old self.new tx) }
         ensures kept { OnErr result (self.new ≡ self.old) }
-        ensures refused { IfErr result (λ e. (base : BasePages) (run : Run)
-            → Keeps base run self.old → StepRefused NotAborting run tx e) }
+        ensures refused { IfErr result (Refuses self.old (λ run. StepRefused NotAborting run tx)) }
     {
-        let size = operations::commit(
-            &mut self.head,
-            &mut self.transactions,
-            tx,
-            &mut self.buffer[self.length..],
-        )?;
-        self.length += size;
-        self.reserved = self.reserved.saturating_sub(size);
-        Ok(self.head.last)
+        self.take_turn(Turn::Commit, tx)
     }
 
     /// A transaction that is active or prepared begins to abort: an abort is appended, and its LSN is
@@ -620,18 +602,9 @@ impl Journal {
         ensures rest { LeavesRest self.old self.new }
         ensures others { OnOk result (OthersStay self.old self.new tx) }
         ensures kept { OnErr result (self.new ≡ self.old) }
-        ensures refused { IfErr result (λ e. (base : BasePages) (run : Run)
-            → Keeps base run self.old → StepRefused NotAborting run tx e) }
+        ensures refused { IfErr result (Refuses self.old (λ run. StepRefused NotAborting run tx)) }
     {
-        let size = operations::abort(
-            &mut self.head,
-            &mut self.transactions,
-            tx,
-            &mut self.buffer[self.length..],
-        )?;
-        self.length += size;
-        self.reserved = self.reserved.saturating_sub(size);
-        Ok(self.head.last)
+        self.take_turn(Turn::Abort, tx)
     }
 
     /// A transaction without a pending update ends: it has finished, and its cells are free. An end
@@ -647,19 +620,9 @@ impl Journal {
         ensures rest { LeavesRest self.old self.new }
         ensures others { OnOk result (OthersStay self.old self.new tx) }
         ensures kept { OnErr result (self.new ≡ self.old) }
-        ensures refused { IfErr result (λ e. (base : BasePages) (run : Run)
-            → Keeps base run self.old → OwnEndRefused run tx e) }
+        ensures refused { IfErr result (Refuses self.old (λ run. OwnEndRefused run tx)) }
     {
-        let size = operations::end(
-            &mut self.head,
-            &mut self.transactions,
-            &self.pending,
-            tx,
-            &mut self.buffer[self.length..],
-        )?;
-        self.length += size;
-        self.reserved = self.reserved.saturating_sub(size);
-        Ok(self.head.last)
+        self.take_turn(Turn::End, tx)
     }
 
     /// An active transaction prepares to commit: a prepare is appended, and its LSN is returned. When the
@@ -678,8 +641,8 @@ impl Journal {
         ensures rest { LeavesRest self.old self.new }
         ensures others { OnOk result (OthersStay self.old self.new tx) }
         ensures kept { OnErr result (self.new ≡ self.old) }
-        ensures refused { IfErr result (λ e. (base : BasePages) (run : Run)
-            → Keeps base run self.old → OwnPrepareRefused run tx self.old.head e) }
+        ensures refused { IfErr result (Refuses self.old
+            (λ run. OwnPrepareRefused run tx self.old.head)) }
     {
         let rollback = make_room(
             &mut self.buffer,
@@ -687,9 +650,11 @@ impl Journal {
             PLAIN_FRAME,
             self.pending.len(),
         )?;
-        let size = operations::prepare(
+        let size = turns::take_turn(
             &mut self.head,
             &mut self.transactions,
+            &self.pending,
+            Turn::Prepare,
             tx,
             &mut self.buffer[self.length..],
         )?;
@@ -714,8 +679,8 @@ impl Journal {
         ensures pending { self.new.pending ≡ self.old.pending }
         ensures pages { self.new.pages ≡ self.old.pages }
         ensures kept { OnErr result (self.new ≡ self.old) }
-        ensures refused { IfErr result (λ e. (base : BasePages) (run : Run)
-            → Keeps base run self.old → OwnCheckpointRefused self.old.head e) }
+        ensures refused { IfErr result (Refuses self.old
+            (λ _. OwnCheckpointRefused self.old.head)) }
     {
         let rollback = make_room(
             &mut self.buffer,

@@ -1,10 +1,11 @@
 //! What a journal keeps of a page.
 
-ghost use Rattle.std.specs.Prelude.{◌≡◌, ◌<◌, ◌≤◌, ◌↔◌, IsTrue, None, length, slice_index_or, slice_set, map};
+ghost use Rattle.std.specs.Prelude.{◌≡◌, ◌<◌, ◌≤◌, ◌↔◌, IsTrue, None, length, slice_index_or};
 ghost use Rattle.page.specs.declared.profile.TheConstants.{SLOTS};
 ghost use Rattle.journal.specs.declared.entries.PageEntry.{PageEntry};
-ghost use Rattle.journal.specs.Arrays.{image_of, page_of, page_state_of, unless_0};
-ghost use Rattle.journal.specs.PageStates.{PageState, changed, written, noted_change, IsCurrentSoFar};
+ghost use Rattle.journal.specs.Arrays.{page_of, page_state_of, unless_0};
+ghost use Rattle.journal.specs.PageStates.{written, noted_change, IsCurrentSoFar};
+ghost use Rattle.journal.specs.Steps.{HoldsImage, IsChanged, ChangesCell};
 
 use crate::entries::{PageEntry, PageImage};
 use crate::image::Image;
@@ -60,7 +61,7 @@ impl PageEntry {
         requires slot { slot < SLOTS }
         requires tx { 0 < tx }
         requires lsn { 0 < lsn }
-        ensures { page_state_of self.new ≡ changed (page_state_of self.old) tx slot (image_of image.now) lsn }
+        ensures { IsChanged self.old self.new tx slot image.now lsn }
     {
         self.page.slots[slot as usize] = *image;
         self.page.lsn = lsn;
@@ -73,8 +74,7 @@ impl PageEntry {
     /// What a slot holds, and the transaction of its last update or CLR, 0 for none.
     pub fn cell(&self, slot: u8) -> (&Image, u32)
         requires { slot < SLOTS }
-        ensures image { image_of result.0.now
-            ≡ slice_index_or (page_state_of self.now).page.slots slot None }
+        ensures image { HoldsImage self.now slot result.0.now }
         ensures writer { unless_0 result.1 ≡ slice_index_or (page_state_of self.now).writers slot None }
     {
         know_slots(&self.page.slots, &self.writers);
@@ -132,8 +132,7 @@ pub fn change_cell(pages: &mut [PageEntry], tx: u32, page: u32, slot: u8, image:
     requires slot { slot < SLOTS }
     requires tx { 0 < tx }
     requires lsn { 0 < lsn }
-    ensures { (d : PageState) → map page_state_of pages.new
-        ≡ slice_set (map page_state_of pages.old) page (changed (slice_index_or (map page_state_of pages.old) page d) tx slot (image_of image.now) lsn) }
+    ensures { ChangesCell pages.old pages.new tx page slot image.now lsn }
 {
     pages[page as usize].change(tx, slot, image, lsn);
 }

@@ -16,8 +16,8 @@ ghost use Rattle.journal.specs.Transactions.{next_after};
 ghost use Rattle.journal.specs.PageStates.{PageState, writers_after, clean, IsUpToDate, IsCurrentSoFar, IsOneBehind};
 ghost use Rattle.journal.specs.Opened.{HasPageBehind, OpenRefused, largest_number};
 ghost use Rattle.journal.specs.Arrays.{page_state_of, unless_0, IsTable};
-ghost use Rattle.journal.specs.Scan.{IsScan, fresh, IsEntered, IsLeft, IsKeptOf, IsNoteRefusal, NoteRefused};
-ghost use Rattle.journal.specs.State.{IsJournal};
+ghost use Rattle.journal.specs.Scan.{IsScan, fresh, IsNoteRefusal, Enters, IsStranger, Leaves, NotesUpdate, RefusesUpdateNote, NotesUndo, RefusesUndoNote, Notes, RefusesStateNote, NotesRecord, RefusesNote, NotesWriter, AreCleaned};
+ghost use Rattle.journal.specs.Outcomes.{ContinuesIn, RefusesOpen};
 
 use crate::entries::{Head, PageEntry, PendingEntry, TransactionEntry};
 use crate::image::Image;
@@ -70,12 +70,10 @@ fn enter(
     ensures place { IfOk result (λ r. r.0 < r.1) }
     ensures within { IfOk result (λ r. r.1 ≤ length transactions.old) }
     ensures few { IfOk result (λ r. count ≤ TRANSACTIONS → r.1 ≤ TRANSACTIONS) }
-    ensures entered { IfOk result (λ r. IsTable (take count transactions.old)
-        → IsEntered tx (take count transactions.old) (take r.1 transactions.new) r.0) }
+    ensures entered { IfOk result (Enters tx (take count transactions.old) transactions.new) }
     ensures err { IsOkUnless result TooManyTransactions }
     ensures full { OnErr result ((TRANSACTIONS ≤ count) ⊎ (length transactions.old ≤ count)) }
-    ensures stranger { OnErr result (IsTable (take count transactions.old)
-        → All (λ e. e.tx ≢ tx) (take count transactions.old)) }
+    ensures stranger { OnErr result (IsStranger tx (take count transactions.old)) }
 {
     if let Some(place) = find(&transactions[..count], tx) {
         return Ok((place, count));
@@ -92,8 +90,7 @@ fn enter(
 fn leave(transactions: &mut [TransactionEntry], count: usize, tx: u32) -> usize
     requires { count ≤ length transactions.old }
     ensures few { result ≤ count }
-    ensures left { IsTable (take count transactions.old)
-        → IsLeft tx (take count transactions.old) (take result transactions.new) }
+    ensures left { Leaves tx (take count transactions.old) (take result transactions.new) }
 {
     match find(&transactions[..count], tx) {
         Some(place) => {
@@ -116,17 +113,11 @@ fn note_logged_update(
     requires { count ≤ length transactions.old }
     ensures count { IfOk result (λ r. r.0 ≤ length transactions.old) }
     ensures held { IfOk result (λ r. r.1 ≤ length pending.old) }
-    ensures ok { IfOk result (λ r. (base : BasePages) (log : History) (next : ℕ) (u : UpdateRecord)
-        → IsKeptOf update.now (last_lsn log + 1) u → Obeys base log (Update u) → Fits (Update u)
-        → held ≤ length pending.old → IsScan log next transactions.old count pending.old held
-        → IsScan (log ▸ Update u) (next_after next (Update u))
-        transactions.new r.0 pending.new r.1) }
+    ensures ok { IfOk result (NotesUpdate update.now transactions.old count pending.old held
+        transactions.new pending.new) }
     ensures kinds { IfErr result IsNoteRefusal }
-    ensures err { IfErr result (λ e. (base : BasePages) (log : History) (next : ℕ)
-        (u : UpdateRecord) → IsKeptOf update.now (last_lsn log + 1) u
-        → Obeys base log (Update u) → Fits (Update u)
-        → held ≤ length pending.old → IsScan log next transactions.old count pending.old held
-        → NoteRefused (log ▸ Update u) (length transactions.old) (length pending.old) e) }
+    ensures err { IfErr result
+        (RefusesUpdateNote update.now transactions.old count pending.old held) }
 {
     let (place, count) = enter(transactions, count, update.tx)?;
     let top = room_for_one(&transactions[..count], pending, held)?;
@@ -147,18 +138,10 @@ fn note_logged_undo(
     requires count { count ≤ length transactions.old }
     requires held { held ≤ length pending.old }
     ensures count { IfOk result (λ n. n ≤ length transactions.old) }
-    ensures ok { IfOk result (λ n. (base : BasePages) (log : History) (next : ℕ)
-        (c : CompensationRecord) → last_lsn log + 1 ≡ lsn → c.tx ≡ tx → c.undo_next ≡ undo_next
-        → Obeys base log (Compensation c) → Fits (Compensation c)
-        → IsScan log next transactions.old count pending.old held
-        → IsScan (log ▸ Compensation c) (next_after next (Compensation c))
-        transactions.new n pending.new held) }
+    ensures ok { IfOk result (NotesUndo tx lsn undo_next transactions.old count pending.old held
+        transactions.new pending.new) }
     ensures kinds { IfErr result IsNoteRefusal }
-    ensures err { IfErr result (λ e. (base : BasePages) (log : History) (next : ℕ)
-        (c : CompensationRecord) → last_lsn log + 1 ≡ lsn → c.tx ≡ tx
-        → Obeys base log (Compensation c) → Fits (Compensation c)
-        → IsScan log next transactions.old count pending.old held
-        → NoteRefused (log ▸ Compensation c) (length transactions.old) (length pending.old) e) }
+    ensures err { IfErr result (RefusesUndoNote tx lsn transactions.old count pending.old held) }
 {
     let (place, count) = enter(transactions, count, tx)?;
     let below = transactions[place].below.min(held);
@@ -179,21 +162,12 @@ fn note_logged_state(
 ) -> Result<usize, Refusal>
     requires { count ≤ length transactions.old }
     ensures count { IfOk result (λ n. n ≤ length transactions.old) }
-    ensures aborts { IfOk result (λ n. (base : BasePages) (log : History) (next : ℕ)
-        (p : PlainRecord) (pending : List PendingEntry) (held : ℕ) → last_lsn log + 1 ≡ lsn
-        → p.tx ≡ tx → state ≡ 1 → Obeys base log (Abort p) → Fits (Abort p)
-        → IsScan log next transactions.old count pending held
-        → IsScan (log ▸ Abort p) (next_after next (Abort p)) transactions.new n pending held) }
-    ensures prepares { IfOk result (λ n. (base : BasePages) (log : History) (next : ℕ)
-        (p : PlainRecord) (pending : List PendingEntry) (held : ℕ) → last_lsn log + 1 ≡ lsn
-        → p.tx ≡ tx → state ≡ 2 → Obeys base log (Prepare p) → Fits (Prepare p)
-        → IsScan log next transactions.old count pending held
-        → IsScan (log ▸ Prepare p) (next_after next (Prepare p)) transactions.new n pending held) }
+    ensures aborts { IfOk result
+        (Notes Abort 1 tx state lsn transactions.old count transactions.new) }
+    ensures prepares { IfOk result
+        (Notes Prepare 2 tx state lsn transactions.old count transactions.new) }
     ensures kinds { IfErr result IsNoteRefusal }
-    ensures err { IfErr result (λ e. (log : History) (next : ℕ) (r : LogRecord)
-        (pending : List PendingEntry) (held room : ℕ) → owner r ≡ Some tx
-        → finished tx (log ▸ r) ≡ false → IsScan log next transactions.old count pending held
-        → NoteRefused (log ▸ r) (length transactions.old) room e) }
+    ensures err { IfErr result (RefusesStateNote tx transactions.old count) }
 {
     let (place, count) = enter(transactions, count, tx)?;
     note_state(transactions, place, state, lsn);
@@ -215,16 +189,11 @@ fn note_record(
     requires fits { Fits (shown view.now) }
     ensures count { IfOk result (λ r. r.0 ≤ length transactions.old) }
     ensures held { IfOk result (λ r. r.1 ≤ length pending.old) }
-    ensures ok { IfOk result (λ r. (base : BasePages) (log : History) (next : ℕ)
-        → last_lsn log + 1 ≡ lsn → Obeys base log (shown view.now)
-        → IsScan log next transactions.old count pending.old held
-        → IsScan (log ▸ shown view.now) (next_after next (shown view.now))
-        transactions.new r.0 pending.new r.1) }
+    ensures ok { IfOk result (NotesRecord (shown view.now) lsn
+        transactions.old count pending.old held transactions.new pending.new) }
     ensures kinds { IfErr result IsNoteRefusal }
-    ensures err { IfErr result (λ e. (base : BasePages) (log : History) (next : ℕ)
-        → last_lsn log + 1 ≡ lsn → Obeys base log (shown view.now)
-        → IsScan log next transactions.old count pending.old held
-        → NoteRefused (log ▸ shown view.now) (length transactions.old) (length pending.old) e) }
+    ensures err { IfErr result
+        (RefusesNote (shown view.now) lsn transactions.old count pending.old held) }
 {
     match view {
         RecordView::Update {
@@ -296,9 +265,7 @@ fn above(next: u32, view: &RecordView) -> Result<u32, Refusal>
 fn note_change(pages: &mut [PageEntry], view: &RecordView, lsn: u64)
     requires fits { Fits (shown view.now) }
     requires lsn { 0 < lsn }
-    ensures { (blank : PageState) → map page_state_of pages.new
-        ≡ writers_after blank (map page_state_of pages.old)
-        (change_of (shown view.now)) (owner (shown view.now)) lsn }
+    ensures { NotesWriter (shown view.now) lsn pages.old pages.new }
 {
     if let Some(change) = view.change() {
         if (change.page as usize) < pages.len() {
@@ -311,8 +278,7 @@ fn note_change(pages: &mut [PageEntry], view: &RecordView, lsn: u64)
 /// only error is `PageBehind`, for the first page that is not; those before it are set then.
 fn settle_pages(pages: &mut [PageEntry], base: u64) -> Result<(), Refusal>
     ensures current { OnOk result (All (IsCurrentSoFar base) (map page_state_of pages.old)) }
-    ensures clean { OnOk result (map page_state_of pages.new
-        ≡ map clean (map page_state_of pages.old)) }
+    ensures clean { OnOk result (AreCleaned pages.old pages.new) }
     ensures err { IfErr result (IsOneBehind base (map page_state_of pages.old)) }
 {
     for place in 0..pages.len() {
@@ -349,14 +315,13 @@ pub fn open(
 ) -> Result<Head, Refusal>
     ensures count { IfOk result (λ head. head.transactions ≤ length transactions.old) }
     ensures updates { IfOk result (λ head. head.pending ≤ length pending.old) }
-    ensures ok { IfOk result (λ head. (base : BasePages) → MayOpen base log.now store.now
-        → IsJournal base (opened log.now store.now) head transactions.new pages.new pending.new) }
+    ensures ok { IfOk result
+        (ContinuesIn log.now store.now transactions.new pages.new pending.new) }
     ensures written { IfOk result (λ head. head.written ≡ last_lsn (history log.now)) }
     ensures current { OnOk result (All (IsUpToDate (history log.now)) store.now.pages) }
     ensures behind { IfErr result (HasPageBehind (history log.now) store.now.pages) }
-    ensures refused { IfErr result (λ e. (base : BasePages) → MayOpen base log.now store.now
-        → OpenRefused log.now store.now (length transactions.old) (length pages.old)
-        (length pending.old) e) }
+    ensures refused { IfErr result
+        (RefusesOpen log.now store.now transactions.old pages.old pending.old) }
 {
     if pages.len() != store.pages.len() {
         return Err(Refusal::BadArrays);

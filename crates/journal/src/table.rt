@@ -1,12 +1,12 @@
 //! The arrays of transactions and of pending updates.
 
-ghost use Rattle.std.specs.Prelude.{◌≡◌, ◌≢◌, ◌<◌, ◌≤◌, ◌+◌, ◌-◌, ℕ, List, Some, None, true, false, All, IfOk, IfErr, IfSome, OnOk, OnErr, IsOkUnless, length, slice_index_or, slice_set, take, filter, is_some};
+ghost use Rattle.std.specs.Prelude.{◌≡◌, ◌≢◌, ◌<◌, ◌≤◌, ◌+◌, ◌-◌, None, true, All, IfOk, IfErr, IfSome, OnOk, OnErr, IsOkUnless, length, slice_set, take};
 ghost use Rattle.std.specs.List.{remove};
 ghost use Rattle.journal.specs.declared.refusal.Refusal.TheVariants.{BadArrays};
-ghost use Rattle.journal.specs.declared.entries.TransactionEntry.{TransactionEntry};
 ghost use Rattle.journal.specs.declared.entries.PendingEntry.{PendingEntry};
-ghost use Rattle.journal.specs.Refusals.{allows, EntryRefused, IsNotRoom};
-ghost use Rattle.journal.specs.Arrays.{state_of, kept_of, IsTable, is_live, AllLive, left_from, IsRoomMade, IsNoRoom, bound_of, updated, undone, in_state, without_owner};
+ghost use Rattle.journal.specs.Refusals.{allows, IsNotRoom};
+ghost use Rattle.journal.specs.Arrays.{state_of, IsTable, is_live, AllLive, IsNoRoom, bound_of};
+ghost use Rattle.journal.specs.Steps.{IsPlaceOf, IsAllowedAt, RefusesEntry, IsUpdatedAt, IsUndoneAt, IsInStateAt, IsUpdateOf, IsNewestOf, IsDeadAt, AllLiveBefore, IsDisownedAt, DropsDead, DropsDeadFrom, MakesRoom, DropsAllDead};
 
 use crate::entries::{PendingEntry, TransactionEntry};
 use crate::refusal::Refusal;
@@ -81,8 +81,7 @@ pub fn used(count: usize, length: usize) -> Result<usize, Refusal>
 /// last one: transactions that began after it have not finished.
 fn place_in_turn(entries: &[TransactionEntry], tx: u32) -> Option<usize>
     ensures within { IfSome result (λ i. i < length entries.now) }
-    ensures found { IfSome result (λ i. (d : TransactionEntry)
-        → (slice_index_or entries.now i d).tx ≡ tx) }
+    ensures found { IfSome result (IsPlaceOf entries.now tx) }
 {
     let newest = entries.last()?;
     let younger = newest.tx.checked_sub(tx)? as usize;
@@ -98,8 +97,7 @@ fn place_in_turn(entries: &[TransactionEntry], tx: u32) -> Option<usize>
 /// be in ascending order of number.
 fn place_among(entries: &[TransactionEntry], tx: u32) -> Option<usize>
     ensures within { IfSome result (λ i. i < length entries.now) }
-    ensures found { IfSome result (λ i. (d : TransactionEntry)
-        → (slice_index_or entries.now i d).tx ≡ tx) }
+    ensures found { IfSome result (IsPlaceOf entries.now tx) }
     ensures none { IsTable entries.now → result ≡ None
         → All (λ e. e.tx ≢ tx) entries.now }
 {
@@ -124,8 +122,7 @@ fn place_among(entries: &[TransactionEntry], tx: u32) -> Option<usize>
 /// ascending order of number.
 pub fn find(entries: &[TransactionEntry], tx: u32) -> Option<usize>
     ensures within { IfSome result (λ i. i < length entries.now) }
-    ensures found { IfSome result (λ i. (d : TransactionEntry)
-        → (slice_index_or entries.now i d).tx ≡ tx) }
+    ensures found { IfSome result (IsPlaceOf entries.now tx) }
     ensures none { IsTable entries.now → result ≡ None
         → All (λ e. e.tx ≢ tx) entries.now }
 {
@@ -139,14 +136,11 @@ pub fn find(entries: &[TransactionEntry], tx: u32) -> Option<usize>
 /// if the array does not have it, or its number is 0; `Forbidden` with its state.
 pub fn place_for(entries: &[TransactionEntry], tx: u32, need: Need) -> Result<usize, Refusal>
     ensures within { IfOk result (λ i. i < length entries.now) }
-    ensures found { IfOk result (λ i. (d : TransactionEntry)
-        → (slice_index_or entries.now i d).tx ≡ tx) }
+    ensures found { IfOk result (IsPlaceOf entries.now tx) }
     ensures some { OnOk result (0 < tx) }
-    ensures allowed { IfOk result (λ i. (d : TransactionEntry)
-        → allows need (state_of (slice_index_or entries.now i d).state) ≡ true) }
+    ensures allowed { IfOk result (IsAllowedAt entries.now need) }
     ensures kind { IfErr result IsNotRoom }
-    ensures err { IfErr result (λ e. (ps : List PendingEntry) → IsTable entries.now
-        → EntryRefused need (kept_of entries.now ps) tx e) }
+    ensures err { IfErr result (RefusesEntry entries.now need tx) }
 {
     if tx == 0 {
         return Err(Refusal::UnknownTransaction);
@@ -176,10 +170,8 @@ pub fn bound(entry: TransactionEntry, held: usize) -> usize
 /// The place of the newest update of a transaction; `None` if none of these updates is its own.
 pub fn newest(pending: &[PendingEntry], tx: u32) -> Option<usize>
     ensures within { IfSome result (λ i. i < length pending.now) }
-    ensures found { IfSome result (λ i. (d : PendingEntry)
-        → (slice_index_or pending.now i d).tx ≡ tx) }
-    ensures above { IfSome result (λ i. (k : ℕ) (d : PendingEntry) → i < k
-        → k < length pending.now → (slice_index_or pending.now k d).tx ≢ tx) }
+    ensures found { IfSome result (IsUpdateOf pending.now tx) }
+    ensures above { IfSome result (IsNewestOf pending.now tx) }
     ensures none { result ≡ None → All (λ p. p.tx ≢ tx) pending.now }
 {
     let mut rest = pending.len();
@@ -204,10 +196,8 @@ fn is_listed(entries: &[TransactionEntry], tx: u32) -> bool
 /// have its transaction.
 fn first_dead(entries: &[TransactionEntry], pending: &[PendingEntry]) -> Option<usize>
     ensures within { IfSome result (λ i. i < length pending.now) }
-    ensures dead { IfSome result (λ i. IsTable entries.now → (d : PendingEntry)
-        → is_live entries.now (slice_index_or pending.now i d) ≡ false) }
-    ensures before { IfSome result (λ i. IsTable entries.now
-        → AllLive entries.now (take i pending.now)) }
+    ensures dead { IfSome result (IsDeadAt entries.now pending.now) }
+    ensures before { IfSome result (AllLiveBefore entries.now pending.now) }
     ensures none { result ≡ None → IsTable entries.now → AllLive entries.now pending.now }
 {
     for place in 0..pending.len() {
@@ -230,9 +220,7 @@ pub fn has_dead(entries: &[TransactionEntry], pending: &[PendingEntry]) -> bool
 fn compact(entries: &[TransactionEntry], pending: &mut [PendingEntry]) -> usize
     requires { 0 < length pending.old }
     ensures within { result < length pending.old }
-    ensures kept { IsTable entries.now
-        → ((d : PendingEntry) → is_live entries.now (slice_index_or pending.old 0 d) ≡ false)
-        → take result pending.new ≡ filter (is_live entries.now) pending.old }
+    ensures kept { DropsDead entries.now result pending.old pending.new }
 {
     let mut kept = 0;
     for place in 1..pending.len() {
@@ -250,9 +238,7 @@ fn compact(entries: &[TransactionEntry], pending: &mut [PendingEntry]) -> usize
 fn compact_from(entries: &[TransactionEntry], pending: &mut [PendingEntry], dead: usize) -> usize
     requires { dead < length pending.old }
     ensures within { result < length pending.old }
-    ensures kept { IsTable entries.now
-        → ((d : PendingEntry) → is_live entries.now (slice_index_or pending.old dead d) ≡ false)
-        → take result pending.new ≡ left_from entries.now dead pending.old }
+    ensures kept { DropsDeadFrom entries.now dead result pending.old pending.new }
 {
     dead + compact(entries, &mut pending[dead..])
 }
@@ -271,8 +257,7 @@ fn is_half_dead(entries: &[TransactionEntry], pending: &[PendingEntry]) -> bool 
 /// same however many others are pending. Returns how many updates are left.
 fn compact_recent(entries: &[TransactionEntry], pending: &mut [PendingEntry]) -> usize
     ensures within { result ≤ length pending.old }
-    ensures kept { IsTable entries.now
-        → IsRoomMade entries.now (length pending.old) result pending.old pending.new }
+    ensures kept { MakesRoom entries.now (length pending.old) pending.old pending.new result }
 {
     let count = pending.len();
     let Some(from) = count.checked_sub(RECENT) else {
@@ -298,10 +283,8 @@ pub fn room_for_one(
     count: usize,
 ) -> Result<usize, Refusal>
     ensures within { IfOk result (λ top. top < length pending.old) }
-    ensures kept { IfOk result (λ top. IsTable entries.now
-        → IsRoomMade entries.now count top pending.old pending.new) }
-    ensures full { IfOk result (λ top. IsTable entries.now → count ≡ length pending.old
-        → take top pending.new ≡ filter (is_live entries.now) pending.old) }
+    ensures kept { IfOk result (MakesRoom entries.now count pending.old pending.new) }
+    ensures full { IfOk result (DropsAllDead entries.now count pending.old pending.new) }
     ensures err { OnErr result (pending.new ≡ pending.old) }
     ensures causes { IfErr result (IsNoRoom entries.now count pending.old) }
 {
@@ -327,8 +310,8 @@ pub fn note_update(
 )
     requires place { place < length transactions.old }
     requires top { top < length pending.old }
-    ensures transaction { (d : TransactionEntry) → transactions.new ≡ slice_set transactions.old place
-        (updated (slice_index_or transactions.old place d) update.now.lsn (top + 1)) }
+    ensures transaction { IsUpdatedAt place update.now.lsn (top + 1)
+        transactions.old transactions.new }
     ensures pending { pending.new ≡ slice_set pending.old top update.now }
 {
     let entry = &mut transactions[place];
@@ -350,10 +333,8 @@ pub fn note_undo(
 )
     requires place { place < length transactions.old }
     requires top { top < length pending.old }
-    ensures transaction { (d : TransactionEntry) → transactions.new ≡ slice_set transactions.old place
-        (undone (slice_index_or transactions.old place d) lsn undo_next top) }
-    ensures pending { (d : PendingEntry) → pending.new ≡ slice_set pending.old top
-        (without_owner (slice_index_or pending.old top d)) }
+    ensures transaction { IsUndoneAt place lsn undo_next top transactions.old transactions.new }
+    ensures pending { IsDisownedAt top pending.old pending.new }
 {
     let entry = &mut transactions[place];
     entry.last = lsn;
@@ -366,8 +347,7 @@ pub fn note_undo(
 /// number.
 pub fn note_state(transactions: &mut [TransactionEntry], place: usize, state: u8, lsn: u64)
     requires { place < length transactions.old }
-    ensures { (d : TransactionEntry) → transactions.new ≡ slice_set transactions.old place
-        (in_state (slice_index_or transactions.old place d) state lsn) }
+    ensures { IsInStateAt place state lsn transactions.old transactions.new }
 {
     let entry = &mut transactions[place];
     entry.last = lsn;

@@ -1,43 +1,28 @@
-use Rattle.std.proofs.Common.{rules, ◌≡◌, ◌+◌, ℕ, inr, refl, sym, subst}
-use Rattle.log_laws.specs.Records.{Commit, Abort, Prepare}
-use Rattle.journal.specs.Writing.{IsWritten}
+use Rattle.std.proofs.Common.{rules, ◌≡◌, inl, inr, refl, sym, subst}
 use Rattle.journal.specs.declared.refusal.Refusal.TheVariants.{BadImage}
-use Rattle.journal.specs.State.{plain_by}
+use Rattle.journal.specs.TurnsTaken.{Turns}
 use Rattle.aries_c.proofs.journaling.aries_journal_turn.Goals as goal
 
-pub returns-in-3-clause-ok : goal.returns-in-3-clause-ok
-returns-in-3-clause-ok c = λ z base run pages h.
+pub returns-clause-ok : goal.returns-clause-ok
+returns-clause-ok c = λ z.
     let d = c.frame_answer.ensures.done z in
-    let ok = rw d.1 at c.commit.ensures.ok in
-    let written = rw d.1 at c.commit.ensures.written in (
-      Commit (plain_by run c.args.tx),
-      (c.in-3.is, refl),
-      ok base run pages c.args.pending.now h,
-      subst (λ n. IsWritten (Commit (plain_by run c.args.tx)) (c.args.journal.now.last + 1) c.args.out.now c.commit.new.out n) (sym d.2) (written base run pages c.args.pending.now h),
+    let w = c.take_turn-written in (
+      c.in-Some.turn,
+      c.in-Some.ensures.kind,
+      subst (Turns c.in-Some.turn c.args.journal.now c.args.transactions.now w.new.head w.new.transactions c.args.pending.now c.args.tx c.args.out.now w.new.out) (sym d.2) (rw d.1 at w.ensures.ok),
     )
 
-pub returns-in-4-clause-ok : goal.returns-in-4-clause-ok
-returns-in-4-clause-ok c = λ z base run pages h.
-    let d = c.frame_answer-in-4.ensures.done z in
-    let ok = rw d.1 at c.abort.ensures.ok in
-    let written = rw d.1 at c.abort.ensures.written in (
-      Abort (plain_by run c.args.tx),
-      (c.in-4.is, refl),
-      ok base run pages c.args.pending.now h,
-      subst (λ n. IsWritten (Abort (plain_by run c.args.tx)) (c.args.journal.now.last + 1) c.args.out.now c.abort.new.out n) (sym d.2) (written base run pages c.args.pending.now h),
-    )
-
-pub returns-in-8-clause-ok : goal.returns-in-8-clause-ok
-returns-in-8-clause-ok c = λ z base run pages h.
-    let d = c.frame_answer-in-8.ensures.done z in
-    let ok = rw d.1 at c.prepare.ensures.ok in
-    let written = rw d.1 at c.prepare.ensures.written in (
-      Prepare (plain_by run c.args.tx),
-      (c.in-8.is, refl),
-      ok base run pages c.args.pending.now h,
-      subst (λ n. IsWritten (Prepare (plain_by run c.args.tx)) (c.args.journal.now.last + 1) c.args.out.now c.prepare.new.out n) (sym d.2) (written base run pages c.args.pending.now h),
-    )
+pub returns-clause-refused : goal.returns-clause-refused
+returns-clause-refused c = λ z base run pages h.
+    let f = c.frame_answer.ensures.failed z in
+    let why = rw f.1 at c.take_turn-written.ensures.refused in
+    (f.0, inl (c.in-Some.turn, c.in-Some.ensures.kind, why base run pages h), f.2, f.3)
 
 pub returns-in_default-clause-refused : goal.returns-in_default-clause-refused
 returns-in_default-clause-refused c = λ z base run pages h.
-    (BadImage, inr (inr (inr (refl, search rules))), c.not_writable.ensures, refl)
+    (BadImage, inr (refl, c.turn_of.ensures.none c.in_default.is), c.not_writable.ensures, refl)
+
+pub returns-clause-same : goal.returns-clause-same
+returns-clause-same c = λ z.
+    let f = c.frame_answer.ensures.failed z in
+    rw f.1 at c.take_turn-written.ensures.same

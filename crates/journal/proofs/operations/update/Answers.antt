@@ -29,21 +29,10 @@ returns-in_err-place c =
     let e : take c.in_ok-count.count ts ≡ take c.args.head.now.transactions ts = ap (λ n. take n ts) c.in_ok-count.ensures.ok in
     rw exit.1 (record {
       ok = tt;
-      written = tt;
-      others = tt;
-      size = tt;
-      short = tt;
       enough = λ _. rw exit.2 c.in_err-place.ensures.kind;
       count = refl;
-      updates = tt;
-      lsn = tt;
-      unforced = refl;
-      next = refl;
-      head = refl;
-      transactions = refl;
-      pages = refl;
-      pending = refl;
-      out = refl;
+      rest = record { written = refl; next = refl };
+      same = record { head = refl; transactions = refl; pages = refl; pending = refl; out = refl };
       refused = rw exit.2 (λ base run h.
           let xs = take c.args.head.now.pending c.args.pending.now in
           let table = subst IsTable (sym e) h.arrays.used.table in
@@ -58,71 +47,16 @@ returns-in_err-before c =
     let e : take c.in_ok-count.count ts ≡ take c.args.head.now.transactions ts = ap (λ n. take n ts) c.in_ok-count.ensures.ok in
     rw exit.1 (record {
       ok = tt;
-      written = tt;
-      others = tt;
-      size = tt;
-      short = tt;
       enough = λ _. rw exit.2 c.in_err-before.ensures.kind;
       count = refl;
-      updates = tt;
-      lsn = tt;
-      unforced = refl;
-      next = refl;
-      head = refl;
-      transactions = refl;
-      pages = refl;
-      pending = refl;
-      out = refl;
+      rest = record { written = refl; next = refl };
+      same = record { head = refl; transactions = refl; pages = refl; pending = refl; out = refl };
       refused = rw exit.2 (λ base run h.
           let xs = take c.args.head.now.pending c.args.pending.now in
           let table = subst IsTable (sym e) h.arrays.used.table in
           cell_refused base run c.args.head.now.last c.args.head.now.next _ (map page_state_of c.args.pages.now) h.holds c.args.tx c.args.page c.args.slot c.args.after.now _ (length c.args.out.now) c.args.head.now ts c.args.pending.now c.in_err-before.field-0.0
           (subst (λ (zs : List TransactionEntry). CellRefused (map page_state_of c.args.pages.now) (kept_of zs xs) c.args.tx c.args.page c.args.slot c.in_err-before.field-0.0) e (c.in_err-before.ensures.err xs table)));
     })
-
-pub returns-clause-ok : goal.returns-clause-ok
-returns-clause-ok c = λ base run h.
-    let ts : List TransactionEntry = c.args.transactions.now in
-    let ps : List PendingEntry = c.args.pending.now in
-    let pages : List PageEntry = c.args.pages.now in
-    let tx : ℕ = c.args.tx in
-    let place : ℕ = c.in_ok-place.place in
-    let n : ℕ = c.args.head.now.transactions in
-    let e : take c.in_ok-count.count ts ≡ take n ts = ap (λ n. take n ts) c.in_ok-count.ensures.ok in
-    let within : place < length (take n ts) = subst (λ (xs : List TransactionEntry). place < length xs) e c.in_ok-place.ensures.within in
-    let found : (get_or (take n ts) place no_entry).tx ≡ tx = subst (λ (xs : List TransactionEntry). (get_or xs place no_entry).tx ≡ tx) e (c.in_ok-place.ensures.found no_entry) in
-    let allowed = subst (λ (xs : List TransactionEntry). allows Working (state_of (get_or xs place no_entry).state) ≡ true) e (c.in_ok-place.ensures.allowed no_entry) in
-    let prev : (get_or (take c.in_ok-count.count ts) place no_entry).last ≡ (get_or (take n ts) place no_entry).last = ap (λ (xs : List TransactionEntry). (get_or xs place no_entry).last) e in
-    let table = subst IsTable (sym e) h.arrays.used.table in
-    let made : IsRoomMade (take n ts) c.args.head.now.pending c.in_ok-top.top ps c.room_for_one.new.pending =
-    subst (λ (zs : List TransactionEntry). IsRoomMade zs c.args.head.now.pending c.in_ok-top.top ps c.room_for_one.new.pending) e (c.in_ok-top.ensures.kept table) in
-    let fits = subst (λ k. Fits (Update (record { tx = tx; prev = k; page = c.args.page; slot = c.args.slot; before = image_of c.in_ok-before.before.now; after = image_of c.args.after.now }))) prev c.put_update-size.ensures.fits in
-    let enough = subst (λ n. c.args.head.now.last + 2 + 2 * n + c.args.head.now.pending < 2 ^ 64) c.in_ok-count.ensures.ok c.in_ok-reserve.ensures.ok in
-    let pushed = c.note_update.ensures.pending ∙ ap (λ k. set c.room_for_one.new.pending c.in_ok-top.top (record { lsn = c.in_ok-lsn.lsn; prev = k; tx = tx; page = c.args.page; slot = c.args.slot; before = c.in_ok-before.before.now })) prev in
-    updated_is base run c.args.head.now ts pages ps h tx place within found c.in_ok-top.top c.room_for_one.new.pending c.in_ok-top.ensures.within c.room_for_one.auto.pending made
-    c.in_ok-lsn.lsn c.in_ok-lsn.ensures.ok c.in_ok-lsn.ensures.few c.args.page c.args.slot c.in_ok-before.before.now c.args.after.now c.note_update.new.transactions c.note_update.new.pending c.change_cell.new.pages enough
-    (c.note_update.ensures.transaction no_entry) pushed c.change_cell.ensures c.in_ok-before.ensures.page c.in_ok-before.ensures.slot c.in_ok-before.ensures.value
-    (λ zs d t. subst (λ (xs : List TransactionEntry). IsFreeFor (kept_of xs zs) (get_or (get_or (map page_state_of pages) c.args.page d).writers c.args.slot None) tx) e (c.in_ok-before.ensures.free zs d table))
-    allowed fits
-
-pub returns-clause-written : goal.returns-clause-written
-returns-clause-written c = λ base run h.
-    let ts : List TransactionEntry = c.args.transactions.now in
-    let ps : List PendingEntry = c.args.pending.now in
-    let pages : List PageEntry = c.args.pages.now in
-    let tx : ℕ = c.args.tx in
-    let place : ℕ = c.in_ok-place.place in
-    let n : ℕ = c.args.head.now.transactions in
-    let e : take c.in_ok-count.count ts ≡ take n ts = ap (λ n. take n ts) c.in_ok-count.ensures.ok in
-    let within : place < length (take n ts) = subst (λ (xs : List TransactionEntry). place < length xs) e c.in_ok-place.ensures.within in
-    let found : (get_or (take n ts) place no_entry).tx ≡ tx = subst (λ (xs : List TransactionEntry). (get_or xs place no_entry).tx ≡ tx) e (c.in_ok-place.ensures.found no_entry) in
-    let last : (get_or (take c.in_ok-count.count ts) place no_entry).last ≡ last_of tx (log_of run) =
-    ap (λ (xs : List TransactionEntry). (get_or xs place no_entry).last) e ∙ (h.holds.transactions.each tx _ (kept_is base run c.args.head.now ts pages ps h tx place within found)).last in
-    let before : image_of c.in_ok-before.before.now ≡ replay base (log_of run) c.args.page c.args.slot = value_is base run c.args.head.now ts pages ps h c.args.page c.args.slot c.in_ok-before.ensures.page c.in_ok-before.ensures.slot (image_of c.in_ok-before.before.now) c.in_ok-before.ensures.value in
-    let r : ℕ → Content → LogRecord = λ k b. Update (record { tx = tx; prev = k; page = c.args.page; slot = c.args.slot; before = b; after = image_of c.args.after.now }) in
-    let one = subst (λ k. IsWritten (r k (image_of c.in_ok-before.before.now)) c.in_ok-lsn.lsn c.args.out.now c.put_update-size.new.out c.put_update-size.result) last c.put_update-size.ensures.written in
-    let two = subst (λ b. IsWritten (r (last_of tx (log_of run)) b) c.in_ok-lsn.lsn c.args.out.now c.put_update-size.new.out c.put_update-size.result) before one in
-    subst (λ k. IsWritten (r (last_of tx (log_of run)) (replay base (log_of run) c.args.page c.args.slot)) k c.args.out.now c.put_update-size.new.out c.put_update-size.result) c.in_ok-lsn.ensures.ok two
 
 pub returns-in_err-room_for : goal.returns-in_err-room_for
 returns-in_err-room_for c =
@@ -131,21 +65,10 @@ returns-in_err-room_for c =
     let short = c.in_err-room_for.ensures.short in
     rw exit.1 (record {
       ok = tt;
-      written = tt;
-      others = tt;
-      size = tt;
-      short = tt;
       enough = λ h. absurd (omega (arith, h, c.in_err-room_for.ensures.short, c.update_size.ensures.short));
       count = refl;
-      updates = tt;
-      lsn = tt;
-      unforced = refl;
-      next = refl;
-      head = refl;
-      transactions = refl;
-      pages = refl;
-      pending = refl;
-      out = refl;
+      rest = record { written = refl; next = refl };
+      same = record { head = refl; transactions = refl; pages = refl; pending = refl; out = refl };
       refused = rw exit.2 (λ base run h.
           let before : image_of c.in_ok-before.before.now ≡ replay base (log_of run) c.args.page c.args.slot = value_is base run c.args.head.now ts c.args.pages.now c.args.pending.now h c.args.page c.args.slot c.in_ok-before.ensures.page c.in_ok-before.ensures.slot (image_of c.in_ok-before.before.now) c.in_ok-before.ensures.value in
           let same : length (image (image_of c.in_ok-before.before.now)) ≡ length (image (replay base (log_of run) c.args.page c.args.slot)) = ap (λ b. length (image b)) before in
@@ -154,23 +77,6 @@ returns-in_err-room_for c =
           subst (UpdateRefused run c.args.tx c.args.page c.args.slot c.args.after.now (length (frame (update_by base run c.args.tx c.args.page c.args.slot (image_of c.args.after.now)) (c.args.head.now.last + 1))) (length c.args.out.now) c.args.head.now ts c.args.pending.now)
           (sym c.in_err-room_for.ensures.err) (size, omega (arith, short, size)));
     })
-
-pub returns-clause-others : goal.returns-clause-others
-returns-clause-others c = λ base run h.
-    let ts : List TransactionEntry = c.args.transactions.now in
-    let place : ℕ = c.in_ok-place.place in
-    let e : take c.in_ok-count.count ts ≡ take c.args.head.now.transactions ts = ap (λ n. take n ts) c.in_ok-count.ensures.ok in
-    let within : place < length (take c.args.head.now.transactions ts) = subst (λ (xs : List TransactionEntry). place < length xs) e c.in_ok-place.ensures.within in
-    let found : (get_or (take c.args.head.now.transactions ts) place no_entry).tx ≡ c.args.tx = subst (λ (xs : List TransactionEntry). (get_or xs place no_entry).tx ≡ c.args.tx) e (c.in_ok-place.ensures.found no_entry) in
-    let ps : List PendingEntry = c.args.pending.now in
-    let n : ℕ = c.args.head.now.transactions in
-    let prev : (get_or (take c.in_ok-count.count ts) place no_entry).last ≡ (get_or (take n ts) place no_entry).last = ap (λ (xs : List TransactionEntry). (get_or xs place no_entry).last) e in
-    let made : IsRoomMade (take n ts) c.args.head.now.pending c.in_ok-top.top ps c.room_for_one.new.pending =
-    subst (λ (zs : List TransactionEntry). IsRoomMade zs c.args.head.now.pending c.in_ok-top.top ps c.room_for_one.new.pending) e (c.in_ok-top.ensures.kept (subst IsTable (sym e) h.arrays.used.table)) in
-    let pushed = c.note_update.ensures.pending ∙ ap (λ k. set c.room_for_one.new.pending c.in_ok-top.top (record { lsn = c.in_ok-lsn.lsn; prev = k; tx = c.args.tx; page = c.args.page; slot = c.args.slot; before = c.in_ok-before.before.now })) prev in
-    updated_others base run c.args.head.now ts c.args.pages.now ps h c.args.tx place within found c.in_ok-top.top c.room_for_one.new.pending c.in_ok-top.ensures.within c.room_for_one.auto.pending made
-    c.in_ok-lsn.lsn c.in_ok-lsn.ensures.ok c.in_ok-lsn.ensures.few c.args.page c.args.slot c.in_ok-before.before.now c.args.after.now c.note_update.new.transactions c.note_update.new.pending c.change_cell.new.pages
-    (c.note_update.ensures.transaction no_entry) pushed
 
 -- an array of pending updates without room for one more
 not_frame_room : (es : List TransactionEntry) (count : ℕ) (ps : List PendingEntry) (e : Refusal) → IsNoRoom es count ps e → IsNotRoom e
@@ -194,54 +100,58 @@ returns-in_err-top c =
     subst (λ (zs : List TransactionEntry). IsNoRoom zs c.args.head.now.pending ps c.in_err-top.field-0.0) e c.in_err-top.ensures.causes in
     rw exit.1 (record {
       ok = tt;
-      written = tt;
-      others = tt;
-      size = tt;
-      short = tt;
       enough = λ _. rw exit.2 (not_frame_room _ _ _ c.in_err-top.field-0.0 cause);
       count = refl;
-      updates = tt;
-      lsn = tt;
-      unforced = refl;
-      next = refl;
-      head = refl;
-      transactions = refl;
-      pages = refl;
-      pending = c.in_err-top.ensures.err;
-      out = refl;
+      rest = record { written = refl; next = refl };
+      same = record { head = refl; transactions = refl; pages = refl; pending = c.in_err-top.ensures.err; out = refl };
       refused = rw exit.2 (λ base run h.
           full_refused run c.args.tx c.args.page c.args.slot c.args.after.now _ (length c.args.out.now) c.args.head.now ts ps c.in_err-top.field-0.0 h.arrays.used.table h.arrays.pending_room cause);
     })
 
-pub returns-clause-enough : goal.returns-clause-enough
-returns-clause-enough c = λ _. tt
-
-pub returns-clause-count : goal.returns-clause-count
-returns-clause-count c = refl
-
-pub returns-clause-lsn : goal.returns-clause-lsn
-returns-clause-lsn c = c.in_ok-lsn.ensures.ok
-
-pub returns-clause-unforced : goal.returns-clause-unforced
-returns-clause-unforced c = refl
-
-pub returns-clause-next : goal.returns-clause-next
-returns-clause-next c = refl
-
-pub returns-clause-head : goal.returns-clause-head
-returns-clause-head c = tt
-
-pub returns-clause-transactions : goal.returns-clause-transactions
-returns-clause-transactions c = tt
-
-pub returns-clause-pages : goal.returns-clause-pages
-returns-clause-pages c = tt
-
-pub returns-clause-pending : goal.returns-clause-pending
-returns-clause-pending c = tt
-
-pub returns-clause-out : goal.returns-clause-out
-returns-clause-out c = tt
-
-pub returns-clause-refused : goal.returns-clause-refused
-returns-clause-refused c = tt
+pub returns-clause-ok : goal.returns-clause-ok
+returns-clause-ok c =
+    let head : Head = c.args.head.now in
+    let ts : List TransactionEntry = c.args.transactions.now in
+    let ps : List PendingEntry = c.args.pending.now in
+    let pages : List PageEntry = c.args.pages.now in
+    let tx : ℕ = c.args.tx in
+    let place : ℕ = c.in_ok-place.place in
+    let top : ℕ = c.in_ok-top.top in
+    let room : List PendingEntry = c.room_for_one.new.pending in
+    let lsn : ℕ = c.in_ok-lsn.lsn in
+    let before : Image = c.in_ok-before.before.now in
+    let es : List TransactionEntry = take head.transactions ts in
+    let e : take c.in_ok-count.count ts ≡ es = ap (λ n. take n ts) c.in_ok-count.ensures.ok in
+    let within : place < length es = subst (λ (xs : List TransactionEntry). place < length xs) e c.in_ok-place.ensures.within in
+    let found : (get_or es place no_entry).tx ≡ tx = subst (λ (xs : List TransactionEntry). (get_or xs place no_entry).tx ≡ tx) e (c.in_ok-place.ensures.found no_entry) in
+    let prev : (get_or (take c.in_ok-count.count ts) place no_entry).last ≡ (get_or es place no_entry).last = ap (λ (xs : List TransactionEntry). (get_or xs place no_entry).last) e in
+    let made : IsTable es → IsRoomMade es head.pending top ps room =
+    λ table. subst (λ (zs : List TransactionEntry). IsRoomMade zs head.pending top ps room) e (c.in_ok-top.ensures.kept (subst IsTable (sym e) table)) in
+    let pushed = c.note_update.ensures.pending ∙ ap (λ k. set room top (record { lsn = lsn; prev = k; tx = tx; page = c.args.page; slot = c.args.slot; before = before })) prev in
+    let enough = subst (λ n. head.last + 2 + 2 * n + head.pending < 2 ^ 64) c.in_ok-count.ensures.ok c.in_ok-reserve.ensures.ok in
+    let allowed = subst (λ (xs : List TransactionEntry). allows Working (state_of (get_or xs place no_entry).state) ≡ true) e (c.in_ok-place.ensures.allowed no_entry) in
+    let record_of : ℕ → Content → LogRecord = λ k b. Update (record { tx = tx; prev = k; page = c.args.page; slot = c.args.slot; before = b; after = image_of c.args.after.now }) in
+    let fits = subst (λ k. Fits (record_of k (image_of before))) prev c.put_update-size.ensures.fits in
+    record {
+      journal = λ base run h.
+          updated_is base run head ts pages ps h tx place within found top room c.in_ok-top.ensures.within c.room_for_one.auto.pending (made h.arrays.used.table)
+          lsn c.in_ok-lsn.ensures.ok c.in_ok-lsn.ensures.few c.args.page c.args.slot before c.args.after.now c.note_update.new.transactions c.note_update.new.pending c.change_cell.new.pages enough
+          (c.note_update.ensures.transaction no_entry) pushed c.change_cell.ensures c.in_ok-before.ensures.page c.in_ok-before.ensures.slot c.in_ok-before.ensures.value
+          (λ zs d t. subst (λ (xs : List TransactionEntry). IsFreeFor (kept_of xs zs) (get_or (get_or (map page_state_of pages) c.args.page d).writers c.args.slot None) tx) e (c.in_ok-before.ensures.free zs d (subst IsTable (sym e) h.arrays.used.table)))
+          allowed fits;
+      written = λ base run h.
+          let last : (get_or (take c.in_ok-count.count ts) place no_entry).last ≡ last_of tx (log_of run) =
+          prev ∙ (h.holds.transactions.each tx _ (kept_is base run head ts pages ps h tx place within found)).last in
+          let was : image_of before ≡ replay base (log_of run) c.args.page c.args.slot = value_is base run head ts pages ps h c.args.page c.args.slot c.in_ok-before.ensures.page c.in_ok-before.ensures.slot (image_of before) c.in_ok-before.ensures.value in
+          let one = subst (λ k. IsWritten (record_of k (image_of before)) lsn c.args.out.now c.put_update-size.new.out c.put_update-size.result) last c.put_update-size.ensures.written in
+          let two = subst (λ b. IsWritten (record_of (last_of tx (log_of run)) b) lsn c.args.out.now c.put_update-size.new.out c.put_update-size.result) was one in
+          subst (λ k. IsWritten (record_of (last_of tx (log_of run)) (replay base (log_of run) c.args.page c.args.slot)) k c.args.out.now c.put_update-size.new.out c.put_update-size.result) c.in_ok-lsn.ensures.ok two;
+      others = λ base run h.
+          updated_others base run head ts pages ps h tx place within found top room c.in_ok-top.ensures.within c.room_for_one.auto.pending (made h.arrays.used.table)
+          lsn c.in_ok-lsn.ensures.ok c.in_ok-lsn.ensures.few c.args.page c.args.slot before c.args.after.now c.note_update.new.transactions c.note_update.new.pending c.change_cell.new.pages
+          (c.note_update.ensures.transaction no_entry) pushed;
+      lsn = c.in_ok-lsn.ensures.ok;
+      pending = omega (arith, c.in_ok-top.ensures.within, c.room_for_one.auto.pending);
+      fits = omega (arith, c.in_ok-room_for.ensures, c.put_update-size.ensures.written.size_is, c.update_size.ensures.size, length-append (image (image_of before)) (image (image_of c.args.after.now)));
+      short = omega (arith, c.update_size.ensures.short, c.put_update-size.ensures.written.size_is, c.update_size.ensures.size, length-append (image (image_of before)) (image (image_of c.args.after.now)));
+    }

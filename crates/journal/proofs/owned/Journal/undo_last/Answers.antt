@@ -24,9 +24,9 @@ returns-clause-ok c = λ base run k.
     (subst (λ z. IsJournal base run a.head a.transactions.items z ps) (sym same_pages)
     (subst (λ z. IsJournal base run a.head a.transactions.items a.pages.items z) (sym same_ps) (journal_of base run a c.self.invariant k'))) in
     let of = c.in_ok-size.ensures in
-    let done = of.ok base run h in
+    let done = of.ok.journal base run h in
     let less = subst (λ (z : List PendingEntry). OwesLess (take a.head.transactions a.transactions.items) (take a.head.pending z) (take c.undo.new.head.transactions c.undo.new.transactions) (take c.undo.new.head.pending c.undo.new.pending)) same_ps
-    (subst (λ (z : List TransactionEntry). OwesLess (take a.head.transactions z) (take a.head.pending ps) (take c.undo.new.head.transactions c.undo.new.transactions) (take c.undo.new.head.pending c.undo.new.pending)) same (of.owes base run h)) in
+    (subst (λ (z : List TransactionEntry). OwesLess (take a.head.transactions z) (take a.head.pending ps) (take c.undo.new.head.transactions c.undo.new.transactions) (take c.undo.new.head.pending c.undo.new.pending)) same (of.ok.owes base run h)) in
     let ts_is = with_items_is a.transactions c.undo.new.transactions (search (rules, places)) in
     let pages_is = with_items_is a.pages c.undo.new.pages (search (rules, places)) in
     let ps_is = with_items_is a.pending c.undo.new.pending (search (rules, places)) in
@@ -36,8 +36,8 @@ returns-clause-ok c = λ base run k.
       done.1,
       keeps_more base run a c.self.invariant k' c.undo.new.head c.undo.new.transactions _ c.undo.new.pages _ c.undo.new.pending _ c.deref_mut-4.result.now _ c.undo.new.out rest _ c.in_ok-size.size c.saturating_sub-self-inside.result
           ts_is pages_is ps_is now_is (ap (take a.length) c.deref_mut-4.ensures.value) (let e = ap length c.deref_mut-4.ensures.value in omega (arith, e, c.self.invariant.buffer))
-          done.0 done.2 done.3 of.lsn
-          (enough_left _ _ _ _ c.in_ok-size.size a.reserved c.saturating_sub-self-inside.result less k'.enough of.short c.saturating_sub-self-inside.ensures),
+          done.0 done.2 done.3 of.ok.lsn
+          (enough_left _ _ _ _ c.in_ok-size.size a.reserved c.saturating_sub-self-inside.result less k'.enough of.ok.short c.saturating_sub-self-inside.ensures),
     )
 
 pub invariant_of-self : goal.invariant_of-self

@@ -40,9 +40,9 @@ returns-clause-ok c = λ base run k.
     let of = c.in_ok-size.ensures in
     let image : Content = c.args.after in
     let record_of : Content → LogRecord = λ m. update_by base run c.args.tx c.args.page c.args.slot m in
-    let done = subst (λ m. IsJournal base (appended run (record_of m)) c.update.new.head c.update.new.transactions c.update.new.pages c.update.new.pending) c.of.ensures.image (of.ok base run h) in
+    let done = subst (λ m. IsJournal base (appended run (record_of m)) c.update.new.head c.update.new.transactions c.update.new.pages c.update.new.pending) c.of.ensures.image (of.ok.journal base run h) in
     let buffer : List ℕ = c.deref_mut-4.result.now in
-    let written = subst (λ m. IsWritten (record_of m) (a.head.last + 1) (mid_of a.length (length buffer - a.length) buffer) c.update.new.out c.in_ok-size.size) c.of.ensures.image (of.written base run h) in
+    let written = subst (λ m. IsWritten (record_of m) (a.head.last + 1) (mid_of a.length (length buffer - a.length) buffer) c.update.new.out c.in_ok-size.size) c.of.ensures.image (of.ok.written base run h) in
     let ts_is = with_items_is a.transactions c.update.new.transactions (search (rules, places)) in
     let pages_is = with_items_is a.pages c.update.new.pages (search (rules, places)) in
     let ps_is = with_items_is c.make_pending_room.new.pending c.update.new.pending (search (rules, places)) in
@@ -51,7 +51,7 @@ returns-clause-ok c = λ base run k.
     let count : length c.update.new.pending ≡ c.len-2.result = search (rules, places) in
     keeps_more base run a c.self.invariant k' c.update.new.head c.update.new.transactions _ c.update.new.pages _ c.update.new.pending _ buffer _ c.update.new.out rest _ c.in_ok-size.size c.in_ok-rollback.rollback
     ts_is pages_is ps_is now_is (ap (take a.length) c.deref_mut-4.ensures.value ∙ c.in_ok-rollback.ensures.kept) (let e = ap length c.deref_mut-4.ensures.value in omega (arith, e, c.in_ok-rollback.ensures.enough))
-    (record_of image) done written of.lsn
+    (record_of image) done written of.ok.lsn
     (enough_room _ _ _ _ _ c.len-2.result c.in_ok-rollback.rollback done.arrays.used done.arrays.few done.arrays.room done.arrays.pending_room count c.in_ok-rollback.ensures.rollback)
 
 pub returns-in_err-size-clause-refused : goal.returns-in_err-size-clause-refused
@@ -98,7 +98,7 @@ invariant_of-self-in_err-size c =
     let of = c.update.ensures in
     let larger = c.make_pending_room.ensures.larger in
     let wider = c.make_room.ensures.larger in
-    let same = ap (λ (h : Head). h.pending) c.in_err-size.ensures.head in
+    let same = ap (λ (h : Head). h.pending) c.in_err-size.ensures.same.head in
     let pending = c.make_pending_room.new.pending in
     let buffer = c.make_room.new.buffer in
     let count : length c.update.new.transactions ≡ a.transactions.len = search (rules, places) in
