@@ -40,6 +40,7 @@ pub fn transactions_of(
 {
     let count = table.len();
     let mut map = BTreeMap::new(alloc);
+    // From the last entry to the first: if two have one number, the first counts.
     for done in 0..count {
         put_transaction(&mut map, table, count - 1 - done)?;
     }

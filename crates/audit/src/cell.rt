@@ -86,12 +86,14 @@ fn number_cells(log: &Log, lsn: u64, numbers: &mut [usize])
     }
 }
 
-/// Reads the cells of the next records after an LSN, as many as `seen` has places. The cells of a
-/// full store do not fit into the processor's cache. Cells that are read one right after another
+/// Brings the cells of the next records after an LSN into the processor's cache, as many as `seen`
+/// has places. It changes nothing but `seen`, which is room for this function alone and may hold
+/// anything before and after.
+///
+/// The cells of a full store do not fit into the cache. Cells that are read one right after another
 /// are fetched at the same time, before the records need them. The writer of each cell is read, and
-/// that of the next cell, since a cell may lie in two lines of the cache. What is read is stored in
-/// `seen`, since the compiler would drop a read that nothing uses. Nothing uses `seen`, so it may
-/// hold anything before and after.
+/// that of the next cell, since a cell may lie in two lines of the cache. What is read goes to
+/// `seen`, since the compiler would drop a read whose result goes nowhere.
 pub fn look_ahead(log: &Log, cells: &[Cell], lsn: u64, seen: &mut [usize])
     requires from { base_lsn (history log.now) ≤ lsn }
     requires to { lsn ≤ last_lsn (history log.now) }

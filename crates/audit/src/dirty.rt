@@ -39,6 +39,7 @@ fn missing_in(alloc: Global, log: &Log, upto: u64, pages: &[Page]) -> Result<Vec
     ensures err { IsOkUnless result NoResource }
 {
     let mut missing = vec![in alloc; 0; pages.len()]?;
+    // For the proof: how large the last LSN can be.
     let _last = log.last();
     let base = log.base();
     for lsn in base..upto {

@@ -103,6 +103,7 @@ fn check_next(log: &Log, audit_state: &mut AuditState, count: usize, lsn: u64) -
         → IsAuditStateOf base count (first lsn (history log.now)) audit_state.old
         → RecordFault base count (history log.now) e) }
 {
+    // For the proof: how large the last LSN can be.
     let _last = log.last();
     let view = log.after(lsn);
     let standing = audit_state.standings.get(transaction_of(&view));

@@ -95,8 +95,9 @@ impl Standing {
     }
 }
 
-/// The standing of a record's transaction after the record. `below` is the LSN below its newest
-/// pending update.
+/// The standing of a transaction after a record of it, which has the LSN `lsn`. `below` is the LSN
+/// of its pending update before the newest one, which becomes the newest if the record is the CLR of
+/// that; 0 if there is none.
 pub fn standing_after(standing: Standing, view: &RecordView, lsn: u64, below: u64) -> Standing
     ensures { result ≡ standing_after (shown view.now) lsn below standing }
 {

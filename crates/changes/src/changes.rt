@@ -130,6 +130,7 @@ impl Changes {
         ensures { (c : PageChange) → page.new
             ≡ changed (slice_index_or self.now page.old.number c) page.old }
     {
+        // For the proof: how many slots a page has.
         let _slots = count_slots(&page.slots);
         let number = page.number as usize;
         page.lsn = self.lsns[number];

@@ -41,6 +41,7 @@ fn put_slots(changes: &Changes, number: usize, image: &mut [u8]) -> Result<(), F
         unreachable!();
     };
     let mut page = decode_page(stored, number as u32)?;
+    // For the proof: how many slots a page has.
     let _slots = count_slots(&page.slots);
     changes.change(&mut page);
     encode_page_into(&page, image);

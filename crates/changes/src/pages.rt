@@ -92,17 +92,20 @@ impl Pages for Vec<Page> {
         value: Option<Value>,
         lsn: u64,
     ) -> Result<(), Fault> {
+        // For the proof: how many slots a page has.
         let _slots = count_slots(&self[page].slots);
         self[page].set(slot, value, lsn);
         Ok(())
     }
 
     fn lsn(&self, page: usize) -> u64 {
+        // For the proof: how many slots a page has.
         let _slots = count_slots(&self[page].slots);
         self[page].lsn
     }
 
     fn set_lsn(&mut self, page: usize, lsn: u64) {
+        // For the proof: how many slots a page has.
         let _slots = count_slots(&self[page].slots);
         self[page].lsn = lsn;
     }

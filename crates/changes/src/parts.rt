@@ -91,6 +91,7 @@ pub fn keep_value(
         ≡ value_in values.old.items (slot_in cells.old.items k s)) }
     ensures err { IsOkUnless result NoResource }
 {
+    // For the proof: how many slots a page has.
     let _slots = count_ids(&cells[page]);
     let place = cells[page][slot];
     if place != 0 {

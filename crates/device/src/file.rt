@@ -178,6 +178,7 @@ impl<F: Write + OpenFile> Sink for FileSink<F> {
 
     ghost taken = { λ sink. F.contents (written_file sink) };
 
+    // One call of the system. It may take fewer bytes than there are, as the trait allows.
     fn write(&mut self, bytes: &[u8]) -> Result<usize, Failed> {
         let answer = write_once(&mut self.file, bytes);
         if answer.is_err() {

@@ -158,13 +158,15 @@ fn put_checkpoint(
     put_dirties(out, middle + 4, pages)
 }
 
-/// Takes a checkpoint: appends its begin record and its end record, which after the call have the
-/// LSNs `head.last - 1` and `head.last`. Writes both frames to the front of `frames`, and returns
-/// their length in bytes: 42, and 21 for each transaction that has a record, and 12 for each page
-/// with changes that the disk is not known to have.
+/// Takes a checkpoint: puts the frames of its begin record and of its end record at the front of
+/// `frames`, for the caller to append to the log, and counts them in the head. After the call they
+/// have the LSNs `head.last - 1` and `head.last`. Returns the length of both frames in bytes: 42,
+/// and 21 for each transaction that has a record, and 12 for each page with changes that the disk
+/// is not known to have.
 ///
 /// The LSN of the begin record may become the store's master when the log is on the disk up to the
-/// end record, and each image that was reported before the call is synced.
+/// end record, and when each image that was reported to
+/// [`page_written`](crate::page_written) before the call is synced.
 ///
 /// Refused, and nothing changes:
 /// - LogFull: too few LSNs are left for two more records and the rollback of all that may be

@@ -244,6 +244,7 @@ pub fn undo(
         (arrays head.old transactions.old pages.old pending.old) tx (length out.old)) }
 {
     let count = used(head.transactions, transactions.len())?;
+    // The pending updates must be within their array; how many they are is in the head.
     let _count = used(head.pending, pending.len())?;
     let entries = &transactions[..count];
     let place = place_for(entries, tx, Need::NotPrepared)?;
@@ -289,6 +290,7 @@ pub fn newest_pending(
     ensures refused { IfErr result (RefusesNewest head.now transactions.now pending.now tx) }
 {
     let count = used(head.transactions, transactions.len())?;
+    // The pending updates must be within their array; how many they are is in the head.
     let _count = used(head.pending, pending.len())?;
     let place = place_for(&transactions[..count], tx, Need::NotPrepared)?;
     let below = bound(transactions[place], head.pending);

@@ -90,6 +90,7 @@ fn check_pending(
 {
     match turn {
         Turn::End => {
+            // The pending updates must be within their array.
             let _held = used(head.pending, pending.len())?;
             let below = bound(entry, head.pending);
             match newest(&pending[..below], tx) {

@@ -5,6 +5,7 @@ ghost use Rattle.std.specs.Prelude.{◌≡◌};
 /// Called once for each part, by the worker that drew it, before the work on the part. Workers are
 /// numbered from 0. What a gate does changes no page.
 pub trait Gate: Sync {
+    /// Called for a part, with the worker that drew it.
     fn enter(&self, worker: u32, part: u32);
 }
 
@@ -23,6 +24,7 @@ pub(crate) struct Entered {
 }
 
 impl Entered {
+    /// The part.
     pub(crate) fn part(&self) -> u32
         ensures { result ≡ self.now.part }
     {

@@ -37,6 +37,7 @@ fn page_lsn(store: &Store, number: u32) -> u64
 {
     match store.pages.get(number as usize) {
         Some(page) => {
+            // For the proof: how many slots a page has.
             let _count = count_slots(&page.slots);
             page.lsn
         }
@@ -140,6 +141,7 @@ fn count_part(
         (map (resolved parted.now.input) tallies.items)) }
     ensures err { IsOkUnless result NoResource }
 {
+    // For the proof: how large the last LSN can be.
     let _last = parted.input.log.last();
     let mut tallies = begin_part(alloc, parted, part)?;
     for route in routes {

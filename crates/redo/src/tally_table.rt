@@ -187,6 +187,7 @@ impl TallyTable {
             return page.lsn;
         }
         let tally = &self.kept[page.place as usize - 1];
+        // For the proof: how many slots a tally has.
         let _lasts = count_lasts(&tally.lasts);
         tally.lsn
     }

@@ -94,7 +94,10 @@ impl Gathering {
         self.wants.highest()
     }
 
-    /// Lets a transaction continue at an LSN, if that is below the record that sends it there.
+    /// Notes that undo looks at the record at `lsn` next for a transaction, if that is below the
+    /// record at `from`, which names it. If it is not, the log is not lawful, and if it is 0, no
+    /// more records of the transaction are to be undone: then nothing is noted. The only error is
+    /// `NoResource`.
     fn go_on(&mut self, tx: u32, from: u64, lsn: u64) -> Result<(), Fault>
         ensures same { self.new.gathered ≡ self.old.gathered }
         ensures wants { OnOk result (MayWant tx from lsn (wants_of self.old) (wants_of self.new)) }

@@ -13,6 +13,8 @@ use log_laws::State;
 use page::{SLOTS, VALUE_BYTES, Value};
 use std::alloc::{AllocError, Allocator};
 
+/// The number in the first four bytes, big-endian, and the bytes after it. `None` if there are
+/// fewer.
 #[inline(always)]
 pub fn u32_at(bytes: &[u8]) -> Option<(u32, &[u8])>
     ensures { option_map (λ x. (x.0, x.1.now)) result ≡ number_at w32 bytes.now }
@@ -27,6 +29,8 @@ pub fn u32_at(bytes: &[u8]) -> Option<(u32, &[u8])>
     ))
 }
 
+/// The number in the first eight bytes, big-endian, and the bytes after it. `None` if there are
+/// fewer.
 #[inline(always)]
 pub fn u64_at(bytes: &[u8]) -> Option<(u64, &[u8])>
     ensures { option_map (λ x. (x.0, x.1.now)) result ≡ number_at w64 bytes.now }
@@ -41,6 +45,8 @@ pub fn u64_at(bytes: &[u8]) -> Option<(u64, &[u8])>
     Some((number, rest))
 }
 
+/// The number of a transaction at the front, and the bytes after it. `None` if it is 0, which no
+/// transaction has, or if there are too few bytes.
 #[inline(always)]
 #[tactic(auto, unfolding(crate::specs::Reading::tx_at))]
 pub fn tx_at(bytes: &[u8]) -> Option<(u32, &[u8])>
@@ -53,6 +59,8 @@ pub fn tx_at(bytes: &[u8]) -> Option<(u32, &[u8])>
     Some((tx, rest))
 }
 
+/// The number of a slot at the front, and the bytes after it. `None` if a page has no such slot, or
+/// if there is no byte.
 #[inline(always)]
 #[tactic(auto, unfolding(crate::specs::Reading::slot_at))]
 pub fn slot_at(bytes: &[u8]) -> Option<(u8, &[u8])>
@@ -69,6 +77,9 @@ pub fn slot_at(bytes: &[u8]) -> Option<(u8, &[u8])>
     }
 }
 
+/// An image at the front, and the bytes after it. It is a byte for the length and then the value;
+/// the byte `ABSENT` alone says that the slot has no value. `None` if the value would be too long,
+/// or if there are too few bytes.
 #[inline(always)]
 #[tactic(auto, unfolding(crate::specs::Reading::image_at))]
 pub fn image_at(bytes: &[u8]) -> Option<(Option<&[u8]>, &[u8])>
@@ -93,6 +104,8 @@ pub fn image_at(bytes: &[u8]) -> Option<(Option<&[u8]>, &[u8])>
     }
 }
 
+/// The fields with which the records of a transaction begin, and the bytes after them: the
+/// transaction, and the LSN of its record before this one. `None` if these bytes are none.
 #[inline(always)]
 #[tactic(auto, unfolding(crate::specs::Reading::plain_at))]
 pub fn plain_at(bytes: &[u8]) -> Option<(u32, u64, &[u8])>
@@ -104,6 +117,8 @@ pub fn plain_at(bytes: &[u8]) -> Option<(u32, u64, &[u8])>
     Some((tx, prev, rest))
 }
 
+/// The state of a transaction at the front, and the bytes after it. `None` if there is no byte, or
+/// if no state has its number.
 #[inline(always)]
 #[tactic(auto, unfolding(crate::specs::Reading::state_at))]
 fn state_at(bytes: &[u8]) -> Option<(State, &[u8])>
@@ -120,6 +135,8 @@ fn state_at(bytes: &[u8]) -> Option<(State, &[u8])>
     }
 }
 
+/// A transaction and its entry in a transaction table at the front, and the bytes after them.
+/// `None` if these bytes are none.
 #[inline(always)]
 #[tactic(auto, unfolding(crate::specs::Reading::entry_at))]
 pub fn entry_at(bytes: &[u8]) -> Option<(u32, Entry, &[u8])>
@@ -137,6 +154,8 @@ pub fn entry_at(bytes: &[u8]) -> Option<(u32, Entry, &[u8])>
     Some((tx, entry, rest))
 }
 
+/// A page and its RecLSN in a dirty page table at the front, and the bytes after them. `None` if
+/// there are too few bytes.
 #[inline(always)]
 #[tactic(auto, unfolding(crate::specs::Reading::dirty_at))]
 pub fn dirty_at(bytes: &[u8]) -> Option<(u32, u64, &[u8])>
@@ -147,6 +166,7 @@ pub fn dirty_at(bytes: &[u8]) -> Option<(u32, u64, &[u8])>
     Some((page, rec_lsn, rest))
 }
 
+/// How many bytes an image takes in a record, with the byte for its length.
 pub fn image_len(value: &Option<Value>) -> usize
     ensures { result ≡ length (image value.now) }
 {
@@ -156,6 +176,8 @@ pub fn image_len(value: &Option<Value>) -> usize
     }
 }
 
+/// Appends an image, with the byte for its length. On an error the bytes from before are still in
+/// front.
 #[tactic(auto, using(crate::proofs::Keeping::keeps_same, crate::proofs::Keeping::keeps_if))]
 pub fn put_image<A: Allocator>(
     out: &mut Vec<u8, A>,
@@ -211,6 +233,8 @@ pub fn dirty_bytes(page: u32, rec_lsn: u64) -> [u8; DIRTY_BYTES]
     bytes
 }
 
+/// Appends a transaction table: the number of entries, and the entries. On an error the bytes from
+/// before are still in front.
 pub fn put_entries<A: Allocator>(
     out: &mut Vec<u8, A>,
     entries: &[(u32, Entry)],
@@ -227,6 +251,8 @@ pub fn put_entries<A: Allocator>(
     Ok(())
 }
 
+/// Appends the entry of a page in a dirty page table. On an error the bytes from before are still
+/// in front.
 #[tactic(auto, using(crate::proofs::Keeping::keeps_same, crate::proofs::Keeping::keeps_if))]
 fn put_dirty<A: Allocator>(out: &mut Vec<u8, A>, page: u32, rec_lsn: u64) -> Result<(), AllocError>
     ensures ok { OnOk result (out.new.items ≡ out.old.items ++ dirty_page (page, rec_lsn)) }
@@ -236,6 +262,8 @@ fn put_dirty<A: Allocator>(out: &mut Vec<u8, A>, page: u32, rec_lsn: u64) -> Res
     Ok(())
 }
 
+/// Appends a dirty page table: the number of entries, and the entries. On an error the bytes from
+/// before are still in front.
 pub fn put_dirties<A: Allocator>(
     out: &mut Vec<u8, A>,
     entries: &[(u32, u64)],

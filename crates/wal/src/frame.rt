@@ -21,6 +21,7 @@ use crate::view::{DirtyTable, RecordView, TransactionTable};
 use page::{Fault, PAGES, TRANSACTIONS};
 use std::alloc::{AllocError, Allocator};
 
+/// An update whose fields are at the front. `None` if these bytes are none.
 #[inline(always)]
 #[tactic(auto, unfolding(crate::specs::Reading::update_at))]
 fn update_at(bytes: &[u8]) -> Option<RecordView>
@@ -41,6 +42,7 @@ fn update_at(bytes: &[u8]) -> Option<RecordView>
     })
 }
 
+/// A CLR whose fields are at the front. `None` if these bytes are none.
 #[inline(always)]
 #[tactic(auto, unfolding(crate::specs::Reading::compensation_at))]
 fn compensation_at(bytes: &[u8]) -> Option<RecordView>
@@ -61,6 +63,8 @@ fn compensation_at(bytes: &[u8]) -> Option<RecordView>
     })
 }
 
+/// The transaction table of a checkpoint end at the front, and the bytes after it. `None` if it
+/// would have too many entries, or if these bytes are none.
 #[tactic(auto, unfolding(crate::specs::Reading::transactions_at))]
 fn transactions_at(bytes: &[u8]) -> Option<(TransactionTable, &[u8])>
     ensures { option_map (λ x. (x.0, x.1.now)) result ≡ transactions_at bytes.now }
@@ -72,6 +76,8 @@ fn transactions_at(bytes: &[u8]) -> Option<(TransactionTable, &[u8])>
     view::entries_at(count, rest)
 }
 
+/// The dirty page table of a checkpoint end at the front, and the bytes after it. `None` if it
+/// would have too many entries, or if these bytes are none.
 #[tactic(auto, unfolding(crate::specs::Reading::dirties_at))]
 fn dirties_at(bytes: &[u8]) -> Option<(DirtyTable, &[u8])>
     ensures { option_map (λ x. (x.0, x.1.now)) result ≡ dirties_at bytes.now }
@@ -207,6 +213,7 @@ fn put_fields<A: Allocator>(
     Ok(())
 }
 
+/// The number of a record's kind in its frame.
 fn kind_of(logged: &Record) -> u8
     ensures { result ≡ kind_of (content logged.now) }
 {
@@ -222,6 +229,8 @@ fn kind_of(logged: &Record) -> u8
     }
 }
 
+/// Appends the frame of a record that has an encoding. On an error the bytes from before are still
+/// in front, and some of the frame may be after them.
 #[tactic(auto, using(crate::proofs::Keeping::keeps_same, crate::proofs::Keeping::keeps_then, crate::proofs::Keeping::keeps_if))]
 fn put_frame<A: Allocator>(
     out: &mut Vec<u8, A>,

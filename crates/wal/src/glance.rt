@@ -62,6 +62,7 @@ impl Glance {
     }
 }
 
+/// What a glance at the fields of an update shows: the images are not looked at.
 #[inline(always)]
 #[tactic(auto, unfolding(crate::specs::Glances::update_glance))]
 fn update_glance(bytes: &[u8]) -> Option<Glance>
@@ -73,6 +74,7 @@ fn update_glance(bytes: &[u8]) -> Option<Glance>
     Some(Glance::Update { tx, page, slot })
 }
 
+/// What a glance at the fields of a CLR shows: the image is not looked at.
 #[inline(always)]
 #[tactic(auto, unfolding(crate::specs::Glances::compensation_glance))]
 fn compensation_glance(bytes: &[u8]) -> Option<Glance>
@@ -90,6 +92,7 @@ fn compensation_glance(bytes: &[u8]) -> Option<Glance>
     })
 }
 
+/// What a glance at the fields of a record of this kind shows.
 #[inline(always)]
 #[tactic(auto, unfolding(crate::specs::Glances::fields_glance, crate::specs::Glances::plain_glance))]
 fn fields_glance(kind: u8, bytes: &[u8]) -> Option<Glance>

@@ -6,6 +6,7 @@ ghost use Rattle.wal.specs.Reading.{update_at, compensation_at, fields_at, body_
 
 use crate::field::{image_at, plain_at, slot_at, u32_at, u64_at};
 
+/// The image after an update, from its fields. `None` if the slot then has no value.
 #[inline(always)]
 #[tactic(auto, unfolding(crate::specs::Reading::update_at))]
 fn update_image(bytes: &[u8]) -> Option<&[u8]>
@@ -20,6 +21,7 @@ fn update_image(bytes: &[u8]) -> Option<&[u8]>
     after
 }
 
+/// The image of a CLR, from its fields. `None` if the slot then has no value.
 #[inline(always)]
 #[tactic(auto, unfolding(crate::specs::Reading::compensation_at))]
 fn compensation_image(bytes: &[u8]) -> Option<&[u8]>
@@ -34,6 +36,8 @@ fn compensation_image(bytes: &[u8]) -> Option<&[u8]>
     image
 }
 
+/// The image that a record of this kind put into its cell, from its fields. `None` if the slot then
+/// has no value, and if the record is in no cell.
 #[inline(always)]
 #[tactic(auto, using(crate::proofs::Images::others_put), unfolding(crate::specs::Reading::fields_at))]
 fn fields_image(kind: u8, bytes: &[u8]) -> Option<&[u8]>

@@ -18,6 +18,7 @@ fn take_stretch(bytes: &[u8], known: Stretch, next: Stretch) -> Result<Stretch, 
     ensures begins { IfOk result (λ x. (x.lsn ≡ known.lsn) × (x.begin ≡ known.begin)) }
     ensures err { IsOkUnless result NoResource }
 {
+    // For the proof: how many bytes there can be.
     let _len = bytes.len();
     if next.begin != known.end || next.lsn != known.lsn + known.offsets.len() as u64 {
         return Ok(known);

@@ -21,8 +21,10 @@ pub fn no_fault_of_a_log()
     ensures { NoFaultOfALog }
 {}
 
-/// The whole records of a cut and its store are lawful. A restart continues from them to the log
-/// and the store that an uninterrupted restart leaves.
+/// A restart of a lawful log that is interrupted leaves a cut: the log, a prefix of the bytes that
+/// it appends, and a store of which some pages may be written. The whole records of a cut and its
+/// store are lawful, and a restart of them ends with the log and the store with which an
+/// uninterrupted restart of the first log ends.
 pub fn cuts_settle()
     ensures { CutsSettle }
 {}

@@ -131,6 +131,7 @@ impl<'a> Log<'a> {
         ensures next { first (lsn + 1) (history self.now)
             ≡ first lsn (history self.now) ▸ shown result }
     {
+        // For the proof: how large the last LSN can be.
         let _last = self.last();
         match self.get(lsn + 1) {
             Some(view) => view,
@@ -276,9 +277,12 @@ pub fn read_log_by<'a, R: Threads + Sync>(
     log_of(begins, header, none, behind, frames)
 }
 
-/// The frames after the header in the first bytes of a log, which must be at least 16 bytes; read
-/// as [`read_log_by`] does. What comes after the last frame is at most the beginning of a frame.
-/// The error is the log's, whatever comes after these bytes.
+/// The whole frames in the first bytes of a log, at least 16, when the rest is not read yet.
+/// [`read_log_behind`] then takes them with the rest. They are read by this many threads. After the
+/// last of them is at most the beginning of a frame.
+///
+/// The error is that of [`read_log_by`] for the log, whatever comes after these bytes: a bad header
+/// or a bad frame among them, or `NoResource`.
 pub fn first_frames<R: Threads + Sync>(
     rt: &R,
     alloc: Global,
@@ -296,6 +300,7 @@ pub fn first_frames<R: Threads + Sync>(
     let first = begins.base() + 1;
     let frames = stretch_by(rt, alloc, front, first, header_bytes(begins), threads)?;
     let next = frames.lsn + frames.offsets.len() as u64;
+    // The frame after them may be cut off here, but it must not be a bad one.
     torn_from(next, 0, front, frames.end)?;
     Ok(frames)
 }

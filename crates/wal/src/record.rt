@@ -118,25 +118,30 @@ impl Record {
     }
 }
 
+/// Whether the fields with which the records of a transaction begin have an encoding: no
+/// transaction has the number 0.
 fn is_plain(tx: u32, prev: u64) -> bool
     ensures { result ≡ true ↔ FitsPlain (record { tx = tx; prev = prev }) }
 {
     tx > 0
 }
 
+/// Whether a page and a slot have an encoding: a page has `SLOTS` slots.
 fn is_cell(page: u32, slot: u8) -> bool
     ensures { result ≡ true ↔ (page < 2 ^ 32) × (slot < SLOTS) }
 {
     (slot as usize) < SLOTS
 }
 
-// Every u64 has eight bytes.
+/// Whether an LSN, or the 0 that stands for none, has an encoding. Each does: a field of an LSN has
+/// the eight bytes of a `u64`.
 fn is_lsn(lsn: u64) -> bool
     ensures { result ≡ true ↔ lsn < 2 ^ 64 }
 {
     true
 }
 
+/// Whether an image has an encoding: a value has at most `VALUE_BYTES` bytes.
 fn fits(value: &Option<Value>) -> bool
     ensures { result ≡ true ↔ FitsSlot value.now }
 {
@@ -146,18 +151,22 @@ fn fits(value: &Option<Value>) -> bool
     }
 }
 
+/// Whether a transaction and its entry in a transaction table have an encoding.
 fn is_entry(tx: u32, entry: Entry) -> bool
     ensures { result ≡ true ↔ FitsEntry (entry_of (tx, entry)) }
 {
     tx > 0 && is_lsn(entry.last) && is_lsn(entry.undo_next)
 }
 
+/// Whether a page and its RecLSN have an encoding in a dirty page table. All do.
 fn is_dirty_page(page: u32, rec_lsn: u64) -> bool
     ensures { result ≡ true ↔ FitsDirty (page, rec_lsn) }
 {
     true
 }
 
+/// Whether the entries are a transaction table that has an encoding: not too many, in ascending
+/// order of transaction.
 #[tactic(auto, using(crate::proofs::Rising::entries_fit))]
 fn is_transaction_table(entries: &[(u32, Entry)]) -> bool
     ensures { result ≡ true ↔ FitsTable TRANSACTIONS tx_in FitsEntry (map entry_of entries.now) }
@@ -165,6 +174,8 @@ fn is_transaction_table(entries: &[(u32, Entry)]) -> bool
     entries.len() <= TRANSACTIONS && are_entries(entries)
 }
 
+/// Whether the entries are a dirty page table that has an encoding: not too many, in ascending
+/// order of page.
 #[tactic(auto, using(crate::proofs::Rising::dirty_pages_fit))]
 fn is_dirty_table(entries: &[(u32, u64)]) -> bool
     ensures { result ≡ true ↔ FitsTable PAGES page_in FitsDirty entries.now }
@@ -172,6 +183,7 @@ fn is_dirty_table(entries: &[(u32, u64)]) -> bool
     entries.len() <= PAGES && are_dirty_pages(entries)
 }
 
+/// Whether each entry has an encoding, and they are in ascending order of transaction.
 fn are_entries(entries: &[(u32, Entry)]) -> bool
     ensures { result ≡ true ↔ All (λ x. FitsEntry (entry_of x)) entries.now
         × IsRising (map (λ x. x.0) entries.now) }
@@ -190,6 +202,7 @@ fn are_entries(entries: &[(u32, Entry)]) -> bool
     true
 }
 
+/// Whether each entry has an encoding, and they are in ascending order of page.
 fn are_dirty_pages(entries: &[(u32, u64)]) -> bool
     ensures { result ≡ true ↔ All FitsDirty entries.now × IsRising (map (λ x. x.0) entries.now) }
 {

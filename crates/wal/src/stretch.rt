@@ -58,6 +58,7 @@ pub fn read_on(bytes: &[u8], known: Stretch, upto: usize) -> Result<Stretch, Fau
         → HasNoFrame bytes.now (x.lsn + length x.offsets) x.end) }
     ensures err { IsOkUnless result NoResource }
 {
+    // For the proof: how many bytes there can be.
     let _len = bytes.len();
     let mut next = known.lsn + known.offsets.len() as u64;
     let Stretch {

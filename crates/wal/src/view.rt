@@ -68,6 +68,7 @@ impl<'a> TransactionTable<'a> {
     }
 }
 
+/// The transaction and its entry at a place of a table of `count` entries.
 fn entry_in(bytes: &[u8], count: usize, place: usize) -> Option<(u32, Entry)>
     requires table { AreEntries count bytes.now }
     requires place { place < count }
@@ -128,6 +129,7 @@ impl<'a> DirtyTable<'a> {
     }
 }
 
+/// The page and its RecLSN at a place of a table of `count` entries.
 fn dirty_in(bytes: &[u8], count: usize, place: usize) -> Option<(u32, u64)>
     requires table { AreDirties count bytes.now }
     requires place { place < count }
@@ -317,6 +319,8 @@ pub fn value_of(image: Option<&[u8]>) -> Option<Value>
     }
 }
 
+/// The entries of a borrowed transaction table, in its order, as a vector. The only error is a lack
+/// of memory.
 fn entries_of(alloc: Global, table: &TransactionTable) -> Result<Vec<(u32, Entry)>, AllocError>
     ensures { IfOk result (λ entries. map entry_of entries.items ≡ table.now) }
 {
@@ -327,6 +331,8 @@ fn entries_of(alloc: Global, table: &TransactionTable) -> Result<Vec<(u32, Entry
     Ok(entries)
 }
 
+/// The entries of a borrowed dirty page table, in its order, as a vector. The only error is a lack
+/// of memory.
 fn dirty_pages_of(alloc: Global, table: &DirtyTable) -> Result<Vec<(u32, u64)>, AllocError>
     ensures { IfOk result (λ entries. entries.items ≡ table.now) }
 {
