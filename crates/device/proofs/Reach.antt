@@ -5,6 +5,16 @@ use Rattle.std.specs.declared.option.Option.TheVariants.{None, Some}
 use Rattle.std.specs.Io.KnownBytes.{Keeps}
 use Rattle.device.specs.Reread.{EndsBy, IsReadThrough, ReachesTo, ReachGrows, ReachJoins}
 
+-- it stays if nothing is read
+pub grows_none : (text : Option (List ℕ)) (a : ℕ) → ReachGrows text a a
+grows_none None a = tt
+grows_none (Some held) a = omega arith
+
+-- a device that is read as far as to an offset is read as far as to a lower one
+pub reach_below : (text : Option (List ℕ)) (offset lower a : ℕ) → lower ≤ offset → ReachesTo text offset a → ReachesTo text lower a
+reach_below None offset lower a low far = tt
+reach_below (Some held) offset lower a low far = omega (arith, low, far)
+
 -- it never becomes less
 pub grows_on : (before now : Option (List ℕ)) (a b c : ℕ) → Keeps before now → ReachGrows before a b → ReachGrows now b c → ReachGrows before a c
 grows_on None now a b c kept first next = tt
