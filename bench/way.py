@@ -138,13 +138,15 @@ undo/looked.rt           get       Log::get, Gathered::get
 passes/marks.rt          end       Marks::end
 passes/fresh.rt          end       Marks::end
 passes/gather.rt         begin     Gathering::begin
-recovery/log_again.rt    read      -
+recovery/first_reading.rt read     -
 device/again.rt          read_at   FileSource::read_at, HeldStore::read_at
 recovery/store_changes.rt take     LsnReader::take
 recovery/store_changes.rt finish   LsnReader::finish
 recovery/store_changes.rt flush    FileSink::flush
 recovery/copying.rt      flush     FileSink::flush
 recovery/in_pieces.rt    write     CopiedLog::write, ContinuedLog::write
+passes/forward.rt        take      CheckpointScan::take, Analysis::take, TallyScan::take, ForwardScan::take, NoPass::take
+passes/forward.rt        is_done   CheckpointScan::is_done, Analysis::is_done, TallyScan::is_done, ForwardScan::is_done, NoPass::is_done
 held_store/held.rt       extend    Images::extend
 held_store/held.rt       copy_from HeldStore::copy_from, Images::copy_from
 held_store/images.rt     push      Images::push
@@ -165,9 +167,10 @@ CUTS = {
     'nothing fails': '''aries/verbose.rt words/refusal.rt words/fault.rt words/given.rt:place_without_text NoWords::from
         device/memory.rt device/slow.rt aries/new_file.rt:refuse job_files/line.rt aries/names.rt:turn_down aries/files.rt:empty_after
         command/job.rt:missing_option command/job.rt:option_conflict command/job.rt:wrong_line Failures::rise Failures::risen
-        Notes::fail Notes::pass_over Board::stop''',
+        Notes::fail Notes::pass_over Board::stop recovery/first_reading.rt:check_log''',
     'no checkpoint': '''wal/checkpoint.rt FrameHead::bytes wal/frame.rt:checkpoint_at wal/frame.rt:transactions_at wal/frame.rt:dirties_at
-        analysis/base.rt:transactions_of analysis/base.rt:dirty_pages_of passes/in_pieces.rt:go_by_passes''',
+        analysis/base.rt:transactions_of analysis/base.rt:dirty_pages_of passes/in_pieces.rt:go_by_passes
+        CheckpointScan::take CheckpointScan::is_done Analysis::take Analysis::is_done TallyScan::take TallyScan::is_done''',
     'updates and commits alone are read': '''wal/frame.rt:compensation_at wal/next.rt:compensation_end wal/glance.rt:compensation_glance
         wal/image.rt:compensation_image
         analysis/scan.rt:prepared wal/field.rt:put_entries wal/field.rt:put_dirties wal/field.rt:entry_bytes
@@ -197,8 +200,8 @@ CUTS = {
 FEW = ['nothing fails', 'no checkpoint', 'updates and commits alone are read']
 # each way: its name, the most functions that it is to have, where it begins, and what it does not take
 WAYS = [
-    ('recover, 3 records', 343, 'aries_cli/main.rt:main', FEW + ['a recovery', 'new files', 'in pieces', 'one worker']),
-    ('recover in place, 3 records', 386, 'aries_cli/main.rt:main', FEW + ['a recovery', 'in place', 'in pieces', 'one worker']),
+    ('recover, 3 records', 342, 'aries_cli/main.rt:main', FEW + ['a recovery', 'new files', 'in pieces', 'one worker']),
+    ('recover in place, 3 records', 385, 'aries_cli/main.rt:main', FEW + ['a recovery', 'in place', 'in pieces', 'one worker']),
     ('recover in memory, 3 records, 1 worker', 281, 'aries_cli/main.rt:main', FEW + ['a recovery', 'new files', 'in memory', 'one worker']),
     ('recover in memory, 3 records, 4 workers', 316, 'aries_cli/main.rt:main',
      FEW + ['a recovery', 'new files', 'in memory', 'several workers', 'a short log']),

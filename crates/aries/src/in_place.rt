@@ -190,6 +190,7 @@ pub fn recover_files_in_place<'x, R: Files<File = File> + Clock>(
     let opened = open_in_place(rt, alloc, files)?;
     settle(rt, files, &opened)?;
     check_lsns(rt, alloc, &opened.log, &files.log)?;
+    // Held until the end: `opened` goes to the recovery, which closes it.
     let _lock = match opened.lock.try_clone() {
         Ok(lock) => lock,
         Err(error) => return Err(refuse(&files.out_log, Call::Lock, error, Fault::WriteLog)),

@@ -67,7 +67,8 @@ pub struct NewTail<'a, R: Files<File = File> + Clock> {
 }
 
 impl<'a, R: Files<File = File> + Clock> NewTail<'a, R> {
-    /// A file that was made, for this log, of which the handle holds the lock. What is cut off is noted in `cut` when it is known.
+    /// The file that was made for the tail of a log. `log` is the open log: it holds the lock. What
+    /// is cut off the log is noted in `cut` when it is known.
     pub fn new(
         rt: &'a R,
         alloc: Global,
@@ -183,6 +184,8 @@ impl<'a, R: Files<File = File> + Clock> OpenFile for NewTail<'a, R> {
         self.file.set_len(size)
     }
 
+    // The recovery flushes the file of the tail before it changes the log. So here the file gets its
+    // name, and the folder is synced.
     fn sync_all(&self) -> io::Result<()> {
         self.file.sync_all()?;
         self.put()

@@ -37,6 +37,7 @@ fn status_of<
     }
 }
 
+/// Runs the program on the words of the command line. The exit status is that of `status_of`.
 fn main(rt: HostRuntime) -> ExitCode {
     let mut out = rt.stdout();
     let mut err = rt.stderr();

@@ -33,12 +33,14 @@ pub struct Changes {
 }
 
 impl Changes {
+    /// No changes.
     pub fn new(alloc: Global) -> Changes {
         Changes {
             all: Vec::new(alloc),
         }
     }
 
+    /// Adds a change after the others. The only error is a lack of memory.
     pub fn push(&mut self, change: Change) -> Result<()> {
         self.all.push(change)?;
         Ok(())

@@ -43,6 +43,8 @@ struct Engine<F, W> {
     random: Random,
 }
 
+/// The error for a refusal. The engine asks for nothing that its journal must refuse, so a refusal
+/// is a bug, and which one it is does not matter.
 fn refused(refusal: Refusal) -> Error {
     let _ = refusal;
     Error::msg("the journal refused an operation")
@@ -57,6 +59,7 @@ enum Decision {
 }
 
 impl Decision {
+    /// How it is announced.
     fn word(self) -> &'static str {
         match self {
             Decision::Commit => "commit",
@@ -65,6 +68,7 @@ impl Decision {
         }
     }
 
+    /// How it is reported once it is in the log.
     fn past(self) -> &'static str {
         match self {
             Decision::Commit => "committed",
@@ -97,6 +101,7 @@ impl<F: OpenFile + Write + Seek, W: Write> Engine<F, W> {
         self.journal.log_written(last).map_err(refused)
     }
 
+    /// Begins a transaction, unless as many as may be open at once are.
     fn begin(&mut self) -> Result<()> {
         if self.journal.unfinished().len() < TOGETHER {
             let _ = self.journal.begin().map_err(refused)?;
@@ -134,6 +139,7 @@ impl<F: OpenFile + Write + Seek, W: Write> Engine<F, W> {
         Ok(())
     }
 
+    /// A transaction undoes all of its changes.
     fn roll_back(&mut self, tx: u32) -> Result<()> {
         let _ = self.journal.roll_back(tx).map_err(refused)?;
         self.changes.forget(tx, 0);

@@ -64,10 +64,12 @@ impl<F: OpenFile + Write + Seek> OpenFiles<F> {
         self.log.write_all(frames)
     }
 
+    /// Syncs the log to its disk.
     pub fn sync_log(&mut self) -> io::Result<()> {
         self.log.sync_all()
     }
 
+    /// Syncs the store to its disk.
     pub fn sync_store(&mut self) -> io::Result<()> {
         self.store.sync_all()
     }

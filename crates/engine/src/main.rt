@@ -52,6 +52,7 @@ fn run<R: Print + Env + Files + AllocGlobal>(rt: &R) -> Result<()> {
     }
 }
 
+/// Runs the engine as the words of the command line say.
 fn main(rt: HostRuntime) -> Result<()> {
     run(&rt)
 }

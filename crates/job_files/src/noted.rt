@@ -125,7 +125,8 @@ impl<'a> Notes<'a> {
         }
     }
 
-    /// How many bytes were read or written.
+    /// How many bytes the calls on the file have read and written so far. Those that are read twice
+    /// count twice.
     pub fn bytes(&self) -> u64 {
         self.bytes.get()
     }
@@ -273,12 +274,14 @@ impl<'a, F: OpenFile, C: Clock> OpenFile for NotedFile<'a, F, C> {
         self.file.set_len(size)
     }
 
+    // A sync is never the first call on a file, so its beginning is not noted.
     fn sync_all(&self) -> io::Result<()> {
         let answer = self.file.sync_all();
         self.notes.end(self.clock, Call::Sync, &answer);
         answer
     }
 
+    // As `sync_all`.
     fn sync_data(&self) -> io::Result<()> {
         let answer = self.file.sync_data();
         self.notes.end(self.clock, Call::Sync, &answer);

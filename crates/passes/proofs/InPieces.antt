@@ -5,7 +5,7 @@ use Rattle.wal.specs.Reads.{Reads, log_text}
 use Rattle.wal.proofs.Whole.{one_reading}
 use Rattle.pieces.specs.declared.mark.Mark.{Mark}
 use Rattle.passes.specs.Marks.{AreMarks, AreInReach, AreFound, LogCause}
-use Rattle.passes.proofs.Forward.{is_whole}
+use Rattle.passes.proofs.ReadForward.{is_whole}
 use Rattle.passes.proofs.Reached.{marked_last}
 use Rattle.page.specs.declared.fault.Fault.{Fault}
 use Rattle.page.specs.declared.fault.Fault.TheVariants.{NoResource, PageAheadOfLog}

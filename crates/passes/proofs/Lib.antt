@@ -1,8 +1,10 @@
 pub mod Reached
 pub mod Calls
+pub mod Passes
+pub mod FirstReading
 pub mod Nexts
 pub mod Finding
-pub mod Forward
+pub mod ReadForward
 pub mod Redoing
 pub mod InPieces
 pub mod Listing

@@ -1,6 +1,8 @@
 -- What comes after a mark: no record, or one that fits in the room.
 use Rattle.std.proofs.Common.{◌≡◌, ℕ, ◌+◌, ◌-◌, ◌<◌, ◌≤◌, List, [], length, take, drop, refl, sym, ap, ◌∙◌, subst, inl, inr, arith, length-append, length-take, length-drop}
 use Rattle.std.proofs.lemmas.List.{append-nil, nil_from_length}
+use Rattle.page.specs.declared.fault.Fault.{Fault}
+use Rattle.page.specs.declared.fault.Fault.TheVariants.{NoResource}
 use Rattle.log_laws.specs.Records.{LogRecord, lsn_before, LogContent, history, last_lsn, ◌⧺◌}
 use Rattle.wal.specs.Headers.{header_of}
 use Rattle.log_laws.specs.declared.start.LogStart.TheVariants.{Version2}
@@ -97,7 +99,6 @@ pub next_within : (text : List ℕ) (whole before : LogContent) (torn : ℕ) (ma
     → next.lsn ≤ last_lsn (history whole)
 next_within text whole before torn mark next piece reads last comes = omega (arith, (comes.is_piece whole torn reads).high, last)
 
--- a failed device or a lack of memory is an error of any analysis
-pub tables_resource : (master : ℕ) (whole : LogContent) (e : PassFault) → IsResource e → TablesCause master whole e
-tables_resource master whole e (inl failed) = subst (TablesCause master whole) (sym failed) tt
-tables_resource master whole e (inr none) = subst (TablesCause master whole) (sym none) tt
+-- a lack of memory is an error of any analysis
+pub memory_cause : (master : ℕ) (whole : LogContent) (e : Fault) → e ≡ NoResource → TablesCause master whole (fault.Fault e)
+memory_cause master whole e none = subst (λ x. TablesCause master whole (fault.Fault x)) (sym none) tt

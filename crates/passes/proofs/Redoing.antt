@@ -76,6 +76,15 @@ tallied_first whole images tables base lsn scan numbered from upto at within bef
       exist = exist_before whole (length images) tables.redo_lsn lsn before;
     }
 
+-- at the mark from which the log is read
+pub tallied_from : (text : List ℕ) (whole before : LogContent) (torn : ℕ) (images : List Page) (tables : TablesContent) (base : ℕ) (from : Mark) (scan : TalliesSoFar) → AreNumbered images → Reads text whole torn → IsMark text before from
+    → base ≡ base_lsn (history whole) → scan.redo_lsn ≡ tables.redo_lsn → scan.upto ≡ base → from.lsn ≤ skipped (base_lsn (history whole)) tables.redo_lsn (last_lsn (history whole)) → AreUpTo (input_over whole images tables) base scan.tallies
+    → AreTalliedUpTo whole images tables (last_lsn (history before)) scan
+tallied_from text whole before torn images tables base from scan numbered reads own at redo_lsn upto skips up =
+    let within = mark_within text whole before torn from reads own in
+    subst (λ n. AreTalliedUpTo whole images tables n scan) own.lsn
+    (tallied_first whole images tables base from.lsn scan numbered redo_lsn (omega (arith, upto, at, within.0)) at within.1 skips up)
+
 -- ONE MORE PIECE
 pub tallied_more : (whole piece : LogContent) (images : List Page) (tables : TablesContent) (mark next : ℕ) (old new : TalliesSoFar) → IsPieceOf (history whole) (history piece) → base_lsn (history piece) ≡ mark → last_lsn (history piece) ≡ next
     → new.redo_lsn ≡ old.redo_lsn → new.upto ≡ next

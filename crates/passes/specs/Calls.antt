@@ -1,6 +1,7 @@
 -- What a call that reads the log of a device asks of its room, leaves of the device, and says of the log if the device's bytes are known (own).
 use Rattle.std.specs.Prelude.{◌≡◌, ℕ, ◌+◌, ◌-◌, ◌^◌, ◌<◌, ◌≤◌, List, Option, Some, Result, MatchResult}
 use Rattle.std.specs.Io.KnownBytes.{Keeps}
+use Rattle.device.specs.Reread.{ReachGrows}
 use Rattle.log_laws.specs.Records.{LogContent, history, last_lsn}
 use Rattle.wal.specs.Reads.{Reads}
 use Rattle.wal.specs.declared.sizes.TheConstants.{BASED_HEADER_BYTES, LONGEST_FRAME}
@@ -14,9 +15,11 @@ pub record IsRoom (size : ℕ) : Type 0 where
   pub takes : BASED_HEADER_BYTES + LONGEST_FRAME ≤ size
   pub short : size < 2 ^ 63
 
--- THE DEVICE still holds what it held. It has failed once more if that is the result, and otherwise not.
-pub record HasRead {D T : Type 0} (text : D → Option (List ℕ)) (failures : D → ℕ) (old new : D) (result : Result T PassFault) : Type 0 where
+-- THE DEVICE still holds what it held, and is read as far as it was, or further. It has failed once more if that is the result, and
+-- otherwise not.
+pub record HasRead {D T : Type 0} (text : D → Option (List ℕ)) (failures read_to : D → ℕ) (old new : D) (result : Result T PassFault) : Type 0 where
   pub same : Keeps (text old) (text new)
+  pub grows : ReachGrows (text old) (read_to old) (read_to new)
   pub counted : MatchResult result (λ _. failures new ≡ failures old) (λ e. failures new ≡ failures old + failures_of_pass e)
 
 -- IF THE BYTES ARE KNOWN that the device holds, P is true of
@@ -49,20 +52,11 @@ ToEnd held from end P = (text : List ℕ) (whole before : LogContent) (torn : �
 abbrev pub FindsMarks : (held : Option (List ℕ)) → (room : ℕ) → List Mark → (torn : ℕ) → Type 0
 FindsMarks held room marks torn = ForText held (λ text. AreFound text room marks torn)
 
--- WHY A CALL STOPS
--- while it reads the whole log
+-- WHY A CALL STOPS while it reads the whole log
 abbrev pub TextCause : (held : Option (List ℕ)) → PassFault → Type 0
 TextCause held e = ForText held (λ text. LogCause text e)
 
--- while it reads what comes after a mark
-abbrev pub MarkCause : (held : Option (List ℕ)) → Mark → PassFault → Type 0
-MarkCause held mark e = ForMark held mark (λ text before. LogCause text e)
-
 -- A device or memory, and nothing else, stops a call that reads a log once more,
--- from a mark to the log's end
-abbrev pub IsResourceToEnd : (held : Option (List ℕ)) → Mark → (end : ℕ) → PassFault → Type 0
-IsResourceToEnd held from end e = ToEnd held from end (λ before whole. IsResource e)
-
 -- from a mark to an LSN, if all frames up to it fit in the room
 abbrev pub IsResourceUpTo : (held : Option (List ℕ)) → Mark → (room upto : ℕ) → PassFault → Type 0
 IsResourceUpTo held mark room upto e = (text : List ℕ) (whole before : LogContent) (torn : ℕ) → held ≡ Some text → Reads text whole torn → IsMark text before mark

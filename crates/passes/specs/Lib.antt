@@ -1,5 +1,7 @@
 pub mod Marks
 pub mod Calls
+pub mod Pieces
+pub mod Passes
 pub mod Next
 pub mod Tables
 pub mod Redoing

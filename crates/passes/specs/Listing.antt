@@ -9,12 +9,11 @@ use Rattle.wal.specs.Glances.{IsGlanceBehind}
 use Rattle.tables.specs.Pieces.{IsPieceOf}
 use Rattle.tables.specs.Tables.{TablesContent}
 use Rattle.analysis.specs.Passing.{SeenTables, HasAnalysed, ComesBefore}
-use Rattle.pieces.specs.declared.mark.Mark.{Mark}
 use Rattle.redo.specs.Passing.{TalliesSoFar, ListEach}
 use Rattle.redo.specs.Redone.{RedoFault}
 use Rattle.passes.specs.declared.fresh.ForwardReading.{ForwardReading}
 use Rattle.passes.specs.declared.fresh.ForwardScan.{ForwardScan}
-use Rattle.passes.specs.Calls.{ForLog, ForLogAt}
+use Rattle.passes.specs.Calls.{ForLog}
 use Rattle.passes.specs.Tables.{NotesOn}
 use Rattle.passes.specs.Redoing.{AreTalliedUpTo, ForShown}
 
@@ -52,12 +51,10 @@ abbrev pub TalliesPiece : (piece : LogContent) → (old new : ForwardScan) → T
 TalliesPiece piece old new = (whole : LogContent) (images : List Page) → IsPieceOf (history whole) (history piece)
     → IsTalliedTo whole images (base_lsn (history piece)) old → IsTalliedTo whole images (last_lsn (history piece)) new
 
--- with what comes after a mark
-abbrev pub ScansOn : (old new : ForwardScan) → (before after : LogContent) → Type 0
-ScansOn old new before after = NotesOn 0 old.tables new.tables before after
-
-abbrev pub TalliesAfter : (held : Option (List ℕ)) → (mark next : Mark) → (old new : ForwardScan) → Type 0
-TalliesAfter held mark next old new = ForLogAt held mark (λ whole. (images : List Page) → IsTalliedTo whole images mark.lsn old → IsTalliedTo whole images next.lsn new)
+-- with what is between the log before a mark and the log before a later one: for analysis, and for redo of any pages
+abbrev pub ScansOn : (old new : ForwardScan) → (whole before after : LogContent) → Type 0
+ScansOn old new whole before after = NotesOn 0 old.tables new.tables before after
+    × ((images : List Page) → IsTalliedTo whole images (last_lsn (history before)) old → IsTalliedTo whole images (last_lsn (history after)) new)
 
 -- P is true of each log with this base LSN that it has analysed
 abbrev pub ForAnalysed : (base : ℕ) → SeenTables → (LogContent → Type 0) → Type 0

@@ -6,10 +6,10 @@ use Rattle.wal.specs.Reads.{Reads}
 use Rattle.wal.specs.declared.sizes.TheConstants.{BASED_HEADER_BYTES, LONGEST_FRAME}
 use Rattle.tables.specs.Pieces.{IsPieceOf}
 use Rattle.pieces.specs.declared.mark.Mark.{Mark}
-use Rattle.pieces.specs.Pieces.{IsMark}
+use Rattle.pieces.specs.Pieces.{IsMark, ReachesMark, ReadsRest}
 use Rattle.passes.specs.declared.fault.PassFault.{PassFault}
 use Rattle.passes.specs.declared.fault.PassFault.TheVariants as fault
-use Rattle.passes.specs.Marks.{HasMark, IsResource, LogCause}
+use Rattle.passes.specs.Marks.{IsResource, LogCause}
 use Rattle.passes.specs.Calls.{ForMark, ForLogAt}
 
 -- The records of the piece come next in the bytes, and the next mark is after them.
@@ -26,17 +26,14 @@ ComesAfter held mark next piece = ForMark held mark (λ text before. ComesNext t
 abbrev pub IsPieceAfter : (held : Option (List ℕ)) → Mark → (piece : LogContent) → Type 0
 IsPieceAfter held mark piece = ForLogAt held mark (λ whole. IsPieceOf (history whole) (history piece))
 
--- this is a mark of them too
-abbrev pub IsNextMark : (held : Option (List ℕ)) → (mark next : Mark) → Type 0
-IsNextMark held mark next = ForMark held mark (λ text before. HasMark text next)
-
--- this is a mark of them too, and Q is true of the logs before both marks
-abbrev pub GoesOn : (held : Option (List ℕ)) → Mark → ((before after : LogContent) → Type 0) → (next : Mark) → Type 0
-GoesOn held mark Q next = ForMark held mark (λ text before. (after : LogContent) × IsMark text after next × Q before after)
-
 -- if no record comes after the mark, the log ends there with these torn bytes
 abbrev pub EndsAt : (held : Option (List ℕ)) → (mark next : Mark) → (torn : ℕ) → Type 0
 EndsAt held mark next torn = ForMark held mark (λ text before. next.lsn ≡ mark.lsn → Reads text before torn)
+
+-- how far the device is read without a gap: if it was to the mark, it is now to the next one, and if no record comes, to its end
+pub record ReadsToNext {D : Type 0} (text : D → Option (List ℕ)) (read_to : D → ℕ) (old new : D) (mark next : Mark) : Type 0 where
+  pub reaches : ReachesMark (text old) (read_to old) mark → ReachesMark (text old) (read_to new) next
+  pub end : next.lsn ≡ mark.lsn → ReadsRest text read_to old new mark.offset
 
 -- why no piece of them is read into a room of this size: a fault of the bytes, or the next frame does not fit in the room
 abbrev pub PieceFails : (text : List ℕ) → Mark → (room : ℕ) → PassFault → Type 0

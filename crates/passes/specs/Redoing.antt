@@ -1,5 +1,6 @@
 -- Redo by a log that is read in pieces (own).
 use Rattle.std.specs.Prelude.{◌≡◌, ⊤, ℕ, ◌+◌, ◌≤◌, List, All, Option, length, drop, slice_index_or}
+use Rattle.page.specs.declared.fault.Fault.{Fault}
 use Rattle.page.specs.declared.page.Page.{Page}
 use Rattle.page.specs.Store.{AreNumbered}
 use Rattle.changes.specs.declared.pages.Pages.{Ghosts as Pages}
@@ -17,7 +18,6 @@ use Rattle.redo.specs.declared.wanted.Wanted.{Wanted}
 use Rattle.pieces.specs.declared.mark.Mark.{Mark}
 use Rattle.passes.specs.Calls.{ForLogAt, ForMarked, IsResourceUpTo}
 use Rattle.passes.specs.Marks.{AreMarks, AreInReach}
-use Rattle.passes.specs.Next.{ForBefore}
 use Rattle.passes.specs.declared.fault.PassFault.{PassFault}
 use Rattle.passes.specs.declared.fault.PassFault.TheVariants as fault
 
@@ -40,15 +40,15 @@ abbrev pub PrecedesRedo : List Mark → (redo_lsn : ℕ) → Mark → Type 0
 PrecedesRedo marks redo_lsn mark = (text : List ℕ) (whole : LogContent) (torn : ℕ) → Reads text whole torn → AreMarks text whole marks
     → mark.lsn ≤ skipped (base_lsn (history whole)) redo_lsn (last_lsn (history whole))
 
--- tallies up to a mark become those up to the next one
-abbrev pub TalliesOn : (held : Option (List ℕ)) → Mark → (end : ℕ) → (old new : TalliesSoFar) → (next : Mark) → Type 0
-TalliesOn held mark end old new next = ForBefore held mark end (λ whole. (images : List Page) (tables : TablesContent) → AreTalliedUpTo whole images tables mark.lsn old
-    → AreTalliedUpTo whole images tables next.lsn new)
+-- tallies of what is before a mark become those of what is before a later one
+abbrev pub TalliesOn : (old new : TalliesSoFar) → (whole before after : LogContent) → Type 0
+TalliesOn old new whole before after = (images : List Page) (tables : TablesContent) → AreTalliedUpTo whole images tables (last_lsn (history before)) old
+    → AreTalliedUpTo whole images tables (last_lsn (history after)) new
 
 -- why they do not
-abbrev pub NextTallyCause : (held : Option (List ℕ)) → Mark → (end : ℕ) → TalliesSoFar → PassFault → Type 0
-NextTallyCause held mark end scan e = ForBefore held mark end (λ whole. (images : List Page) (tables : TablesContent) → AreTalliedUpTo whole images tables mark.lsn scan
-    → RedoCause whole (length images) tables.redo_lsn e)
+abbrev pub StopsTallying : TalliesSoFar → (whole before : LogContent) → Fault → Type 0
+StopsTallying scan whole before e = (images : List Page) (tables : TablesContent) → AreTalliedUpTo whole images tables (last_lsn (history before)) scan
+    → RedoFault whole (length images) tables.redo_lsn 1 e
 
 -- why no image is fetched from the piece after a mark, if all frames up to the first record that is wanted fit in the room
 abbrev pub FetchCause : (held : Option (List ℕ)) → Mark → (room : ℕ) → List Wanted → PassFault → Type 0

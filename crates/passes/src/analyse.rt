@@ -1,131 +1,113 @@
 //! Analysis of a log that a device holds: the tables of a crash, found piece after piece.
 
-ghost use Rattle.std.specs.Prelude.{◌≡◌, ◌≤◌, ◌<◌, length, IfOk, IfErr, OnOk, None};
+ghost use Rattle.std.specs.Prelude.{◌≡◌, ◌≤◌, ⊤, length, IfOk, IfErr, None};
+ghost use Rattle.page.specs.declared.fault.Fault.TheVariants.{NoResource};
 ghost use Rattle.wal.specs.declared.sizes.TheConstants.{LARGEST_BASE};
 ghost use Rattle.analysis.specs.Tables.{entry_at};
 ghost use Rattle.passes.specs.Marks.{IsLow};
-ghost use Rattle.passes.specs.Next.{GoesOn, IsResourceBefore};
 ghost use Rattle.passes.specs.Tables.{SeesOn, NotesOn, HasNone0, AreBaseTables, AreTablesIn, AreTrueIn, TablesCauseIn, BaseCause, AreWithout0};
-ghost use Rattle.passes.specs.Calls.{IsRoom, HasRead, ToEnd, IsResourceToEnd};
+ghost use Rattle.passes.specs.Calls.{IsRoom, HasRead};
 
-use crate::{Marks, PassFault, piece_before};
+use crate::forward::pass_to_end;
+use crate::pass::Pass;
+use crate::{Marks, PassFault};
 use analysis::{CheckpointScan, TableScan};
 use device::Reread;
+use page::Fault;
 use pieces::Mark;
 use std::alloc::Global;
 use std::collections::BTreeMap;
 use tables::Tables;
-use wal::Entry;
+use wal::{Entry, Log};
 
-/// Looks for the checkpoint in the piece after a mark, and returns the mark after the piece. Errors
-/// are those of [`piece_before`], and `NoResource` if memory was refused.
-fn look_in_piece<S: Reread>(
-    alloc: Global,
-    source: &mut S,
-    mark: Mark,
-    end: u64,
-    room: &mut [u8],
-    scan: &mut CheckpointScan,
-) -> Result<Mark, PassFault>
-    requires room { IsRoom (length room.old) }
-    requires mark { IsLow mark }
-    requires before { mark.lsn < end }
-    requires low { end ≤ LARGEST_BASE }
-    ensures rises { IfOk result (λ next. mark.lsn < next.lsn) }
-    ensures low { IfOk result IsLow }
-    ensures seen { IfOk result (GoesOn (S.text source.old) mark (SeesOn scan.old scan.new)) }
-    ensures fault { IfErr result (IsResourceBefore (S.text source.old) mark end) }
-    ensures source { HasRead S.text S.failures source.old source.new result }
-{
-    let (piece, next) = piece_before(alloc, source, mark, end, room)?;
-    scan.pass(&piece)?;
-    Ok(next)
-}
+impl Pass for CheckpointScan {
+    ghost use Rattle.std.proofs.Common.{refl};
 
-/// Looks for the checkpoint in the pieces after a mark until it is found, up to the log's last LSN.
-/// Errors are those of [`look_in_piece`].
-fn look_from<S: Reread>(
-    alloc: Global,
-    source: &mut S,
-    from: Mark,
-    end: u64,
-    room: &mut [u8],
-    scan: &mut CheckpointScan,
-) -> Result<(), PassFault>
-    requires room { IsRoom (length room.old) }
-    requires from { IsLow from }
-    requires low { end ≤ LARGEST_BASE }
-    ensures seen { OnOk result (ToEnd (S.text source.old) from end (SeesOn scan.old scan.new)) }
-    ensures fault { IfErr result (IsResourceToEnd (S.text source.old) from end) }
-    ensures source { HasRead S.text S.failures source.old source.new result }
-{
-    let mut mark = from;
-    while mark.lsn < end && !scan.is_found() {
-        mark = look_in_piece(alloc, source, mark, end, room, scan)?;
+    ghost is_ready = { λ scan lsn. ⊤ };
+
+    ghost passes = { λ old new whole. SeesOn old new };
+
+    ghost keeps = { λ old new. ⊤ };
+
+    ghost stops = { λ scan whole before e. e ≡ NoResource };
+
+    ghost may_stop = { λ e. e ≡ NoResource };
+
+    ghost begins = { λ scan whole before m seen. seen };
+
+    ghost goes_on = { λ old now new whole before between after one more m seen.
+        more m (one m seen) };
+
+    ghost begins_same = { λ scan. tt };
+
+    ghost stays_same = { λ old now new one more. tt };
+
+    ghost stops_later = { λ old now whole before between e one later. later };
+
+    ghost stops_for_memory = { λ scan whole before. refl };
+
+    fn take(&mut self, piece: &Log) -> Result<(), Fault> {
+        self.pass(piece)
     }
-    Ok(())
-}
 
-/// Looks at the piece after a mark for what its records do to both tables, and returns the mark
-/// after the piece. Errors are those of [`piece_before`], and `NoResource` if memory was refused.
-fn analyse_piece<S: Reread>(
-    alloc: Global,
-    source: &mut S,
-    mark: Mark,
-    end: u64,
-    room: &mut [u8],
-    master: u64,
-    scan: &mut TableScan,
-) -> Result<Mark, PassFault>
-    requires room { IsRoom (length room.old) }
-    requires mark { IsLow mark }
-    requires before { mark.lsn < end }
-    requires low { end ≤ LARGEST_BASE }
-    ensures rises { IfOk result (λ next. mark.lsn < next.lsn) }
-    ensures low { IfOk result IsLow }
-    ensures seen { IfOk result (GoesOn (S.text source.old) mark
-        (NotesOn master scan.old scan.new)) }
-    ensures no_transaction_0 { OnOk result (HasNone0 scan.old → HasNone0 scan.new) }
-    ensures fault { IfErr result (IsResourceBefore (S.text source.old) mark end) }
-    ensures source { HasRead S.text S.failures source.old source.new result }
-{
-    let (piece, next) = piece_before(alloc, source, mark, end, room)?;
-    scan.pass(&piece, master)?;
-    Ok(next)
-}
-
-/// Looks at all pieces after a mark for what their records do to both tables, up to the log's last
-/// LSN. Errors are those of [`analyse_piece`].
-fn analyse_from<S: Reread>(
-    alloc: Global,
-    source: &mut S,
-    from: Mark,
-    end: u64,
-    room: &mut [u8],
-    master: u64,
-    scan: &mut TableScan,
-) -> Result<(), PassFault>
-    requires room { IsRoom (length room.old) }
-    requires from { IsLow from }
-    requires low { end ≤ LARGEST_BASE }
-    ensures seen { OnOk result (ToEnd (S.text source.old) from end
-        (NotesOn master scan.old scan.new)) }
-    ensures no_transaction_0 { OnOk result (HasNone0 scan.old → HasNone0 scan.new) }
-    ensures fault { IfErr result (IsResourceToEnd (S.text source.old) from end) }
-    ensures source { HasRead S.text S.failures source.old source.new result }
-{
-    let mut mark = from;
-    while mark.lsn < end {
-        mark = analyse_piece(alloc, source, mark, end, room, master, scan)?;
+    fn is_done(&self) -> bool {
+        self.is_found()
     }
-    Ok(())
+}
+
+/// Analysis of the records after a checkpoint.
+#[derive(Drop)]
+struct Analysis {
+    /// What the records so far do to both tables.
+    tables: TableScan,
+    /// The LSN of the checkpoint's begin record, 0 for none.
+    master: u64,
+}
+
+impl Pass for Analysis {
+    ghost use Rattle.std.proofs.Common.{refl, subst, ◌∙◌};
+
+    ghost is_ready = { λ scan lsn. ⊤ };
+
+    ghost passes = { λ old new whole before after. (new.master ≡ old.master)
+        × NotesOn old.master old.tables new.tables before after };
+
+    ghost keeps = { λ old new. HasNone0 old.tables → HasNone0 new.tables };
+
+    ghost stops = { λ scan whole before e. e ≡ NoResource };
+
+    ghost may_stop = { λ e. e ≡ NoResource };
+
+    ghost begins = { λ scan whole before. (refl, λ all seen. seen) };
+
+    ghost goes_on = { λ old now new whole before between after one more. (
+      more.0 ∙ one.0,
+      λ all seen. subst (λ m. NotesOn m now.tables new.tables between after)
+          one.0 more.1 all (one.1 all seen),
+    ) };
+
+    ghost begins_same = { λ scan none. none };
+
+    ghost stays_same = { λ old now new one more none. more (one none) };
+
+    ghost stops_later = { λ old now whole before between e one later. later };
+
+    ghost stops_for_memory = { λ scan whole before. refl };
+
+    fn take(&mut self, piece: &Log) -> Result<(), Fault> {
+        self.tables.pass(piece, self.master)
+    }
+
+    fn is_done(&self) -> bool {
+        false
+    }
 }
 
 /// The tables of the checkpoint that the master names, empty ones if the master is 0. They are
 /// looked for after the mark `from`. The checkpoint's begin record is not before that mark.
 ///
 /// Errors: `BadMaster` if there is no checkpoint begin record at the master, or no later checkpoint
-/// end record names it; those of [`look_in_piece`].
+/// end record names it; those of [`piece_before`](crate::piece_before).
 fn checkpoint_tables<S: Reread>(
     alloc: Global,
     source: &mut S,
@@ -141,10 +123,10 @@ fn checkpoint_tables<S: Reread>(
         x.0.entries x.1.entries) }
     ensures no_transaction_0 { IfOk result (λ x. entry_at 0 x.0.entries ≡ None) }
     ensures fault { IfErr result (BaseCause (S.text source.old) from end master) }
-    ensures source { HasRead S.text S.failures source.old source.new result }
+    ensures source { HasRead S.text S.failures S.read_to source.old source.new result }
 {
     let mut scan = CheckpointScan::new(alloc, master);
-    look_from(alloc, source, from, end, room, &mut scan)?;
+    pass_to_end(alloc, source, from, end, room, &mut scan)?;
     let tables = scan.finish()?;
     Ok(tables)
 }
@@ -168,14 +150,15 @@ pub fn tables_in_pieces<S: Reread>(
     ensures lawful { IfOk result (AreTrueIn (S.text source.old) marks.now master) }
     ensures no_transaction_0 { IfOk result AreWithout0 }
     ensures fault { IfErr result (TablesCauseIn (S.text source.old) marks.now master) }
-    ensures source { HasRead S.text S.failures source.old source.new result }
+    ensures source { HasRead S.text S.failures S.read_to source.old source.new result }
 {
     let base = marks.first().lsn;
     let end = marks.end().lsn;
     let from = marks.at(marks.place_before(master));
     let (transactions, dirty) = checkpoint_tables(alloc, source, from, end, room, master)?;
-    let mut scan = TableScan::begin(alloc, transactions, dirty)?;
-    analyse_from(alloc, source, from, end, room, master, &mut scan)?;
-    let tables = scan.finish(base)?;
+    let tables = TableScan::begin(alloc, transactions, dirty)?;
+    let mut analysis = Analysis { tables, master };
+    pass_to_end(alloc, source, from, end, room, &mut analysis)?;
+    let tables = analysis.tables.finish(base)?;
     Ok(tables)
 }

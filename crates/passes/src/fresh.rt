@@ -2,24 +2,23 @@
 //! tallies of redo.
 
 ghost use Rattle.std.specs.Prelude.{◌≡◌, ◌+◌, ◌≤◌, ◌<◌, ◌^◌, length, IfOk, IfErr, OnOk, Some, None, IsOkUnless};
+ghost use Rattle.device.specs.Reread.{IsReadThrough};
 ghost use Rattle.page.specs.declared.fault.Fault.TheVariants.{NoResource};
 ghost use Rattle.log_laws.specs.Records.{history, last_lsn, base_lsn};
 ghost use Rattle.wal.specs.declared.sizes.TheConstants.{LARGEST_BASE};
 ghost use Rattle.analysis.specs.Tables.{AreTablesOf};
 ghost use Rattle.redo.specs.Routes.{IsSeen};
-ghost use Rattle.passes.specs.Listing.{TalliesNext, HasBegun, AnalysesPiece, TalliesPiece, ScansOn, TalliesAfter, ForAnalysed, BeginsTallies, AreTalliedIn, AreRefused};
-ghost use Rattle.passes.specs.Marks.{IsInReach, IsLow};
-ghost use Rattle.passes.specs.Calls.{IsRoom, HasRead, ForLog, FindsMarks, TextCause, MarkCause};
-ghost use Rattle.passes.specs.Next.{GoesOn, EndsAt};
+ghost use Rattle.passes.specs.Listing.{TalliesNext, HasBegun, AnalysesPiece, TalliesPiece, ScansOn, ForAnalysed, BeginsTallies, AreTalliedIn, AreRefused};
+ghost use Rattle.passes.specs.Calls.{IsRoom, HasRead, ForLog, FindsMarks, TextCause};
 ghost use Rattle.passes.specs.Tables.{HasNone0, AreTrueIfLawful, AreWithout0};
 
-use crate::find::mark_at_start;
-use crate::{Marks, PassFault, next_piece};
+use crate::find::{mark_at_start, read_from_first};
+use crate::pass::Pass;
+use crate::{Marks, PassFault};
 use analysis::TableScan;
 use changes::Pages;
 use device::Reread;
 use page::Fault;
-use pieces::Mark;
 use redo::TallyScan;
 use std::alloc::Global;
 use std::collections::BTreeMap;
@@ -104,37 +103,42 @@ fn scan_piece(piece: &Log, scan: &mut ForwardScan) -> Result<(), Fault>
     Ok(())
 }
 
-/// Reads the piece after a mark for analysis and redo. Returns the mark after it, and how many
-/// bytes of the room are left after that: the torn tail of the log if the LSNs of both marks are
-/// the same.
-///
-/// Errors are those of [`next_piece`], and `NoResource` if memory was refused.
-fn take_piece<S: Reread>(
-    alloc: Global,
-    source: &mut S,
-    mark: Mark,
-    room: &mut [u8],
-    scan: &mut ForwardScan,
-) -> Result<(Mark, usize), PassFault>
-    requires room { IsRoom (length room.old) }
-    requires low { IsLow mark }
-    requires upto { scan.old.tallies.upto ≤ mark.lsn }
-    ensures within { IfOk result (λ x. IsInReach (length room.old) mark x.0) }
-    ensures upto { IfOk result (λ x. scan.new.tallies.upto ≤ x.0.lsn) }
-    ensures count { OnOk result (length scan.new.tallies.tallies
-        ≡ length scan.old.tallies.tallies) }
-    ensures seen { IfOk result (λ x. GoesOn (S.text source.old) mark
-        (ScansOn scan.old scan.new) x.0) }
-    ensures tallied { IfOk result (λ x. TalliesAfter (S.text source.old) mark x.0
-        scan.old scan.new) }
-    ensures ends { IfOk result (λ x. EndsAt (S.text source.old) mark x.0 x.1) }
-    ensures no_transaction_0 { OnOk result (HasNone0 scan.old.tables → HasNone0 scan.new.tables) }
-    ensures fault { IfErr result (MarkCause (S.text source.old) mark) }
-    ensures source { HasRead S.text S.failures source.old source.new result }
-{
-    let (piece, next, torn) = next_piece(alloc, source, mark, room)?;
-    scan_piece(&piece, scan)?;
-    Ok((next, torn))
+impl Pass for ForwardScan {
+    ghost use Rattle.std.proofs.Common.{refl, ◌∙◌};
+
+    ghost is_ready = { λ scan lsn. scan.tallies.upto ≤ lsn };
+
+    ghost passes = { ScansOn };
+
+    ghost keeps = { λ old new. (length new.tallies.tallies ≡ length old.tallies.tallies)
+        × (HasNone0 old.tables → HasNone0 new.tables) };
+
+    ghost stops = { λ scan whole before e. e ≡ NoResource };
+
+    ghost may_stop = { λ e. e ≡ NoResource };
+
+    ghost begins = { λ scan whole before. (λ all seen. seen, λ images tallied. tallied) };
+
+    ghost goes_on = { λ old now new whole before between after one more. (
+      λ all seen. more.0 all (one.0 all seen),
+      λ images tallied. more.1 images (one.1 images tallied),
+    ) };
+
+    ghost begins_same = { λ scan. (refl, λ none. none) };
+
+    ghost stays_same = { λ old now new one more. (more.0 ∙ one.0, λ none. more.1 (one.1 none)) };
+
+    ghost stops_later = { λ old now whole before between e one later. later };
+
+    ghost stops_for_memory = { λ scan whole before. refl };
+
+    fn take(&mut self, piece: &Log) -> Result<(), Fault> {
+        scan_piece(piece, self)
+    }
+
+    fn is_done(&self) -> bool {
+        false
+    }
 }
 
 /// The tables at the end of a log with this base LSN; and the tallies, or the fault of redo. The only
@@ -198,27 +202,18 @@ pub fn read_forward<S: Reread, P: Pages>(
     ensures count { IfOk result (λ x. IfOk x.tallies (λ all. length all.tallies
         ≡ P.count pages.now)) }
     ensures refused { IfOk result (AreRefused P.Pages (S.text source.old) pages.now) }
+    ensures read { OnOk result (IsReadThrough (S.text source.old) (S.read_to source.new)) }
     ensures fault { IfErr result (TextCause (S.text source.old)) }
-    ensures source { HasRead S.text S.failures source.old source.new result }
+    ensures source { HasRead S.text S.failures S.read_to source.old source.new result }
 {
     let first = mark_at_start(alloc, source, room)?;
-    let mut marks = Marks::begin(alloc, first)?;
-    let base = marks.first().lsn;
-    let mut scan = begin_scan(alloc, pages, base)?;
-    for _ in 0..u64::MAX {
-        let mark = marks.end();
-        let (next, torn) = take_piece(alloc, source, mark, room, &mut scan)?;
-        if next.lsn == mark.lsn {
-            let (tables, tallies) = finish_scan(scan, base)?;
-            return Ok(ForwardReading {
-                marks,
-                torn,
-                tables,
-                tallies,
-            });
-        }
-        marks.push(next)?;
-    }
-    // No log has 2^64 - 1 pieces.
-    Err(PassFault::Fault(Fault::NoResource))
+    let mut scan = begin_scan(alloc, pages, first.lsn)?;
+    let (marks, torn) = read_from_first(alloc, source, first, room, &mut scan)?;
+    let (tables, tallies) = finish_scan(scan, first.lsn)?;
+    Ok(ForwardReading {
+        marks,
+        torn,
+        tables,
+        tallies,
+    })
 }

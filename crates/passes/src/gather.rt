@@ -30,7 +30,7 @@ fn gather_piece<S: Reread>(
         gathering.old gathering.new) }
     ensures before { OnOk result (WantUpTo mark.lsn (wants_in gathering.new.wants)) }
     ensures fault { IfErr result (IsResourceUpTo (S.text source.old) mark (length room.old) upto) }
-    ensures source { HasRead S.text S.failures source.old source.new result }
+    ensures source { HasRead S.text S.failures S.read_to source.old source.new result }
 {
     let piece = piece_up_to(alloc, source, mark, upto, room)?;
     gathering.take(alloc, &piece)?;
@@ -54,7 +54,7 @@ pub fn gather_for_undo<S: Reread>(
     ensures gathered { IfOk result (AreGatheredFor (S.text source.old) marks.now tables.now) }
     ensures fault { IfErr result (IsResourceBetween (S.text source.old) marks.now
         (length room.old)) }
-    ensures source { HasRead S.text S.failures source.old source.new result }
+    ensures source { HasRead S.text S.failures S.read_to source.old source.new result }
 {
     let base = marks.first().lsn;
     let count = marks.count();

@@ -1,6 +1,7 @@
 //! A restart over a log that a device holds, which is read in pieces.
 
 ghost use Rattle.std.specs.Prelude.{◌+◌, ◌*◌, ◌≤◌, ◌^◌, length, IfOk, IfErr, OnOk};
+ghost use Rattle.device.specs.Reread.{IsReadThrough};
 ghost use Rattle.changes.specs.Numbered.{StayNumbered};
 ghost use Rattle.undo.specs.Appended.{HaveUpdates, AreFit};
 ghost use Rattle.passes.specs.InPieces.{GoesForward, FailsOn, StopsForward, SplitsLog, RestartsOn, RestoresOn, GathersAlike};
@@ -59,8 +60,9 @@ fn go_at_once<S: Reread, P: Pages>(
         x.marks x.torn) }
     ensures answer { IfOk result (GoesForward P.Pages (S.text source.old) 0
         pages.old pages.new) }
+    ensures read { OnOk result (IsReadThrough (S.text source.old) (S.read_to source.new)) }
     ensures fault { IfErr result (StopsForward P.Pages (S.text source.old) 0 pages.old) }
-    ensures source { HasRead S.text S.failures source.old source.new result }
+    ensures source { HasRead S.text S.failures S.read_to source.old source.new result }
 {
     let read = read_forward(alloc, source, room, pages)?;
     check_lsns(read.marks.end().lsn, pages)?;
@@ -93,8 +95,9 @@ fn go_by_passes<S: Reread, P: Pages>(
         x.marks x.torn) }
     ensures answer { IfOk result (GoesForward P.Pages (S.text source.old) master
         pages.old pages.new) }
+    ensures read { OnOk result (IsReadThrough (S.text source.old) (S.read_to source.new)) }
     ensures fault { IfErr result (StopsForward P.Pages (S.text source.old) master pages.old) }
-    ensures source { HasRead S.text S.failures source.old source.new result }
+    ensures source { HasRead S.text S.failures S.read_to source.old source.new result }
 {
     let (marks, torn) = find_marks(alloc, source, room)?;
     check_lsns(marks.end().lsn, pages)?;
@@ -127,8 +130,9 @@ fn go_forward<S: Reread, P: Pages>(
         x.marks x.torn) }
     ensures answer { IfOk result (GoesForward P.Pages (S.text source.old) master
         pages.old pages.new) }
+    ensures read { OnOk result (IsReadThrough (S.text source.old) (S.read_to source.new)) }
     ensures fault { IfErr result (StopsForward P.Pages (S.text source.old) master pages.old) }
-    ensures source { HasRead S.text S.failures source.old source.new result }
+    ensures source { HasRead S.text S.failures S.read_to source.old source.new result }
 {
     if master == 0 {
         go_at_once(alloc, source, room, pages)
@@ -173,9 +177,12 @@ pub fn restart_in_pieces<S: Reread, P: Pages>(
     ensures few { IfOk result (λ x. length x.outcome.appended.items
         ≤ 2 * length x.gathered.records + 2 ^ 32) }
 
+    // The log is then read to its end.
+    ensures read { OnOk result (IsReadThrough (S.text source.old) (S.read_to source.new)) }
+
     // On an error, its condition holds for the input, a device and memory aside.
     ensures fault { IfErr result (FailsOn P.Pages (S.text source.old) master pages.old) }
-    ensures source { HasRead S.text S.failures source.old source.new result }
+    ensures source { HasRead S.text S.failures S.read_to source.old source.new result }
 {
     let forward = go_forward(alloc, source, room, master, pages)?;
     let Forward {

@@ -15,6 +15,7 @@
 //!   together (`Listing`).
 //! - `find`, `marks`: the first reading, and the marks between which the log is read again
 //!   (`Marks`).
+//! - `pass`, `forward`: what looks at the pieces, and how they are read for it (`Pieces`, `Passes`).
 //! - `next`, `piece`: the piece after a mark (`Next`).
 //! - `analyse`: analysis, from the mark before the checkpoint on (`Tables`).
 //! - `repeat`: redo, which takes the tallies from the mark before its first record on, and then the
@@ -26,11 +27,13 @@
 mod analyse;
 mod fault;
 mod find;
+mod forward;
 mod fresh;
 mod gather;
 mod in_pieces;
 mod marks;
 mod next;
+mod pass;
 mod piece;
 mod repeat;
 

@@ -4,7 +4,7 @@ ghost use Rattle.std.specs.Prelude.{◌≡◌, ◌+◌, ◌≤◌, ◌<◌, ◌^
 ghost use Rattle.log_laws.specs.Records.{history, last_lsn, base_lsn};
 ghost use Rattle.wal.specs.declared.sizes.TheConstants.{BASED_HEADER_BYTES, LARGEST_BASE};
 ghost use Rattle.passes.specs.Marks.{IsInReach, IsLow};
-ghost use Rattle.passes.specs.Next.{PieceCause, ComesAfter, EndsAt, IsResourceBefore};
+ghost use Rattle.passes.specs.Next.{PieceCause, ComesAfter, EndsAt, IsResourceBefore, ReadsToNext};
 ghost use Rattle.passes.specs.Calls.{IsRoom, HasRead};
 
 use crate::PassFault;
@@ -36,8 +36,10 @@ pub fn next_piece<'a, S: Reread>(
     ensures within { IfOk result (λ x. IsInReach (length room.old) mark x.1) }
     ensures next { IfOk result (λ x. ComesAfter (S.text source.old) mark x.1 x.0) }
     ensures ends { IfOk result (λ x. EndsAt (S.text source.old) mark x.1 x.2) }
+    ensures reach { IfOk result (λ x. ReadsToNext S.text S.read_to source.old source.new
+        mark x.1) }
     ensures fault { IfErr result (PieceCause (S.text source.old) mark (length room.old)) }
-    ensures source { HasRead S.text S.failures source.old source.new result }
+    ensures source { HasRead S.text S.failures S.read_to source.old source.new result }
 {
     let full = room.len();
     let count = read_piece(source, mark, room)?;
@@ -81,7 +83,7 @@ pub fn piece_before<'a, S: Reread>(
     ensures low { IfOk result (λ x. IsLow x.1) }
     ensures next { IfOk result (λ x. ComesAfter (S.text source.old) mark x.1 x.0) }
     ensures fault { IfErr result (IsResourceBefore (S.text source.old) mark end) }
-    ensures source { HasRead S.text S.failures source.old source.new result }
+    ensures source { HasRead S.text S.failures S.read_to source.old source.new result }
 {
     let (log, next, _) = next_piece(alloc, source, mark, room)?;
     if next.lsn <= mark.lsn || end < next.lsn {

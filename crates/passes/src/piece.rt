@@ -31,7 +31,7 @@ pub fn piece_up_to<'a, S: Reread>(
     ensures base { IfOk result (λ log. base_lsn (history log) ≡ mark.lsn) }
     ensures reaches { IfOk result (λ log. upto ≤ last_lsn (history log)) }
     ensures fault { IfErr result (IsResourceUpTo (S.text source.old) mark (length room.old) upto) }
-    ensures source { HasRead S.text S.failures source.old source.new result }
+    ensures source { HasRead S.text S.failures S.read_to source.old source.new result }
 {
     let count = read_piece(source, mark, room)?;
     let (log, _) = piece_log(alloc, mark, &room[..count])?;

@@ -1,23 +1,25 @@
 //! Redo by a log that a device holds, which is read in pieces.
 
-ghost use Rattle.std.specs.Prelude.{◌≡◌, ◌≤◌, ◌<◌, All, length, drop, IfOk, IfErr, OnOk};
+ghost use Rattle.std.specs.Prelude.{◌≡◌, ◌≤◌, ◌<◌, ⊤, All, length, drop, IfOk, IfErr, OnOk};
 ghost use Rattle.std.specs.List.Sorted.{IsNonDecreasingBy};
 ghost use Rattle.changes.specs.Numbered.{StayNumbered};
 ghost use Rattle.page.specs.declared.profile.TheConstants.{SLOTS};
-ghost use Rattle.wal.specs.declared.sizes.TheConstants.{LARGEST_BASE};
 ghost use Rattle.passes.specs.Marks.{IsLow, IsMarkAmong};
-ghost use Rattle.passes.specs.Next.{IsNextMark};
-ghost use Rattle.passes.specs.Redoing.{PrecedesRedo, TalliesOn, NextTallyCause, FetchCause, Tallies, TallyCause, FetchesNext, FetchesAll, FinishesAll, RepeatsBy, RepeatsAll, RedoStops};
+ghost use Rattle.passes.specs.Redoing.{PrecedesRedo, TalliesOn, StopsTallying, FetchCause, Tallies, TallyCause, FetchesNext, FetchesAll, FinishesAll, RepeatsBy, RepeatsAll, RedoStops};
 ghost use Rattle.passes.specs.Calls.{IsRoom, HasRead, IsResourceIn};
 
+use crate::forward::pass_to_end;
+use crate::pass::Pass;
 use crate::piece::piece_up_to;
-use crate::{Marks, PassFault, piece_before};
+use crate::{Marks, PassFault};
 use changes::Pages;
 use device::Reread;
+use page::Fault;
 use pieces::Mark;
 use redo::{TallyScan, Wanted, fetch_from};
 use std::alloc::Global;
 use tables::Tables;
+use wal::Log;
 
 /// The mark from which redo reads a log: the last one before the record at `redo_lsn`, or the first
 /// one if there is none before it; the mark at the log's end if `redo_lsn` is 0.
@@ -32,36 +34,40 @@ fn mark_to_begin(marks: &Marks, redo_lsn: u64) -> Mark
     marks.at(marks.place_before(redo_lsn))
 }
 
-/// Counts the records of the piece after a mark for the pages that lack them. The log is known to
-/// continue to the LSN `end`. Returns the mark after the piece.
-///
-/// Errors are those of [`piece_before`], and `NoSuchPage` with the LSN of the first record from
-/// `redo_lsn` on that is on a page which the store lacks.
-fn tally_piece<S: Reread>(
-    alloc: Global,
-    source: &mut S,
-    mark: Mark,
-    end: u64,
-    room: &mut [u8],
-    scan: &mut TallyScan,
-) -> Result<Mark, PassFault>
-    requires room { IsRoom (length room.old) }
-    requires mark { IsLow mark }
-    requires before { mark.lsn < end }
-    requires low { end ≤ LARGEST_BASE }
-    requires upto { scan.old.upto ≤ mark.lsn }
-    ensures rises { IfOk result (λ next. mark.lsn < next.lsn) }
-    ensures low { IfOk result IsLow }
-    ensures upto { IfOk result (λ next. scan.new.upto ≡ next.lsn) }
-    ensures count { OnOk result (length scan.new.tallies ≡ length scan.old.tallies) }
-    ensures next { IfOk result (IsNextMark (S.text source.old) mark) }
-    ensures tallied { IfOk result (TalliesOn (S.text source.old) mark end scan.old scan.new) }
-    ensures fault { IfErr result (NextTallyCause (S.text source.old) mark end scan.old) }
-    ensures source { HasRead S.text S.failures source.old source.new result }
-{
-    let (piece, next) = piece_before(alloc, source, mark, end, room)?;
-    scan.pass(&piece)?;
-    Ok(next)
+impl Pass for TallyScan {
+    ghost use Rattle.std.proofs.Common.{refl, ◌∙◌};
+
+    ghost is_ready = { λ scan lsn. scan.upto ≤ lsn };
+
+    ghost passes = { TalliesOn };
+
+    ghost keeps = { λ old new. length new.tallies ≡ length old.tallies };
+
+    ghost stops = { StopsTallying };
+
+    ghost may_stop = { λ e. ⊤ };
+
+    ghost begins = { λ scan whole before images tables tallied. tallied };
+
+    ghost goes_on = { λ old now new whole before between after one more images tables tallied.
+        more images tables (one images tables tallied) };
+
+    ghost begins_same = { λ scan. refl };
+
+    ghost stays_same = { λ old now new one more. more ∙ one };
+
+    ghost stops_later = { λ old now whole before between e one later images tables tallied.
+        later images tables (one images tables tallied) };
+
+    ghost stops_for_memory = { λ scan whole before images tables tallied. tt };
+
+    fn take(&mut self, piece: &Log) -> Result<(), Fault> {
+        self.pass(piece)
+    }
+
+    fn is_done(&self) -> bool {
+        false
+    }
 }
 
 /// The tallies of all pages of a store at the end of the log. The log is read from `redo_lsn` on,
@@ -80,17 +86,15 @@ fn tally_in_pieces<S: Reread, P: Pages>(
         pages.now tables.now) }
     ensures fault { IfErr result (TallyCause P.Pages (S.text source.old) marks.now
         pages.now tables.now) }
-    ensures source { HasRead S.text S.failures source.old source.new result }
+    ensures source { HasRead S.text S.failures S.read_to source.old source.new result }
 {
     let end = marks.end().lsn;
-    let mut mark = mark_to_begin(marks, tables.redo_lsn);
+    let from = mark_to_begin(marks, tables.redo_lsn);
     // There is a first mark, and no mark is before it: its LSN is the log's base LSN.
     let _count = marks.len();
-    let base = marks.at(0).lsn.min(mark.lsn);
+    let base = marks.at(0).lsn.min(from.lsn);
     let mut scan = TallyScan::begin(alloc, pages, tables, base)?;
-    while mark.lsn < end {
-        mark = tally_piece(alloc, source, mark, end, room, &mut scan)?;
-    }
+    pass_to_end(alloc, source, from, end, room, &mut scan)?;
     Ok(scan)
 }
 
@@ -119,7 +123,7 @@ fn fetch_piece<S: Reread, P: Pages>(
     ensures fetched { IfOk result (FetchesNext P.Pages (S.text source.old) mark wanted.now
         pages.old pages.new) }
     ensures fault { IfErr result (FetchCause (S.text source.old) mark (length room.old) wanted.now) }
-    ensures source { HasRead S.text S.failures source.old source.new result }
+    ensures source { HasRead S.text S.failures S.read_to source.old source.new result }
 {
     let piece = piece_up_to(alloc, source, mark, wanted[0].lsn, room)?;
     Ok(fetch_from(&piece, wanted, pages)?)
@@ -149,7 +153,7 @@ fn fetch_in_pieces<S: Reread, P: Pages>(
         pages.old pages.new) }
     ensures fault { IfErr result (IsResourceIn (S.text source.old) marks.now
         (length room.old) upto) }
-    ensures source { HasRead S.text S.failures source.old source.new result }
+    ensures source { HasRead S.text S.failures S.read_to source.old source.new result }
 {
     let mut taken = 0;
     while taken < wanted.len() && wanted[taken].lsn <= upto {
@@ -176,7 +180,7 @@ fn finish_in_pieces<S: Reread, P: Pages>(
         pages.old pages.new) }
     ensures fault { IfErr result (IsResourceIn (S.text source.old) marks.now
         (length room.old) scan.upto) }
-    ensures source { HasRead S.text S.failures source.old source.new result }
+    ensures source { HasRead S.text S.failures S.read_to source.old source.new result }
 {
     let wanted = scan.wanted(alloc)?;
     pages.reserve(wanted.len())?;
@@ -208,7 +212,7 @@ pub fn end_redo<S: Reread, P: Pages>(
     ensures numbered { OnOk result (StayNumbered P.Pages pages.old pages.new) }
     ensures fault { IfErr result (IsResourceIn (S.text source.old) marks.now
         (length room.old) scan.upto) }
-    ensures source { HasRead S.text S.failures source.old source.new result }
+    ensures source { HasRead S.text S.failures S.read_to source.old source.new result }
 {
     let applied = scan.applied();
     // The log's last LSN fits, and no record counts twice, so the count fits.
@@ -243,7 +247,7 @@ pub fn redo_in_pieces<S: Reread, P: Pages>(
     ensures numbered { OnOk result (StayNumbered P.Pages pages.old pages.new) }
     ensures fault { IfErr result (RedoStops P.Pages (S.text source.old) marks.now
         (length room.old) pages.old tables.now) }
-    ensures source { HasRead S.text S.failures source.old source.new result }
+    ensures source { HasRead S.text S.failures S.read_to source.old source.new result }
 {
     let scan = tally_in_pieces(alloc, source, marks, room, pages, tables)?;
     end_redo(alloc, source, marks, room, pages, scan)

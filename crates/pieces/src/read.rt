@@ -4,12 +4,13 @@ ghost use Rattle.std.specs.Prelude.{◌≡◌, ◌+◌, ◌≤◌, ◌<◌, ◌^
 ghost use Rattle.std.specs.Io.KnownBytes.{Keeps};
 ghost use Rattle.device.specs.Failures.{Counts};
 ghost use Rattle.device.specs.Reread.{EndsBy, ReadsFrom};
+ghost use Rattle.device.specs.Rereading.{ReadsOn, StaysRead};
 ghost use Rattle.page.specs.declared.fault.Fault.{Fault};
 ghost use Rattle.wal.specs.Headers.{header_of};
 ghost use Rattle.wal.specs.Reads.{Cause};
 ghost use Rattle.log_laws.specs.declared.start.LogStart.TheVariants.{Version2};
 ghost use Rattle.wal.specs.declared.sizes.TheConstants.{BASED_HEADER_BYTES, LARGEST_BASE};
-ghost use Rattle.pieces.specs.Pieces.{EndsInRoom, ForBegun, HoldsPiece, IsFirstMark};
+ghost use Rattle.pieces.specs.Pieces.{EndsInRoom, ForBegun, HoldsPiece, IsFirstMark, JoinsPiece};
 
 use crate::mark::Mark;
 use device::{Failed, Reread, read_full_at};
@@ -26,7 +27,7 @@ pub fn first_mark(alloc: Global, bytes: &[u8]) -> Result<Mark, Fault>
     requires { length bytes.now ≤ BASED_HEADER_BYTES }
     ensures mark { IfOk result (λ mark. ForBegun bytes.now (λ text. IsFirstMark text mark)) }
     ensures low { IfOk result (λ mark. mark.lsn ≤ LARGEST_BASE) }
-    ensures front { IfOk result (λ mark. mark.offset ≤ BASED_HEADER_BYTES) }
+    ensures within { IfOk result (λ mark. mark.offset ≤ length bytes.now) }
     ensures fault { IfErr result (λ e. ForBegun bytes.now (λ text. Cause text e)) }
 {
     let (log, torn) = read_log(alloc, bytes)?;
@@ -59,6 +60,8 @@ fn read_after_header<S: Reread>(
     ensures end { IfOk result (λ count. BASED_HEADER_BYTES + count < length room.new
         → EndsBy (S.text source.old) (offset + count)) }
     ensures same { Keeps (S.text source.old) (S.text source.new) }
+    ensures grows { StaysRead S.text S.read_to source.old source.new }
+    ensures joins { ReadsOn S.text S.read_to source.old source.new offset result }
     ensures cause { Counts (S.failures source.old) (S.failures source.new) result }
 {
     read_full_at(source, offset, &mut room[BASED_HEADER_BYTES..])
@@ -78,6 +81,8 @@ pub fn read_piece<S: Reread>(source: &mut S, mark: Mark, room: &mut [u8]) -> Res
     ensures piece { IfOk result (λ count. HoldsPiece (S.text source.old) mark count room.new) }
     ensures end { IfOk result (λ count. EndsInRoom (S.text source.old) mark count room.new) }
     ensures same { Keeps (S.text source.old) (S.text source.new) }
+    ensures grows { StaysRead S.text S.read_to source.old source.new }
+    ensures joins { IfOk result (JoinsPiece S.text S.read_to source.old source.new mark) }
     ensures cause { Counts (S.failures source.old) (S.failures source.new) result }
 {
     put_header(room, mark.lsn);

@@ -3,7 +3,7 @@ use Rattle.std.proofs.Common.{ℕ, ◌≡◌, ◌≤◌, ◌+◌, ◌-◌, ◌^�
 use Rattle.std.proofs.lemmas.List.{drop-take}
 use Rattle.std.specs.Prelude.{IfSome}
 use Rattle.std.specs.Io.KnownBytes.{Keeps}
-use Rattle.device.specs.Reread.{EndsBy, ReachesTo}
+use Rattle.device.specs.Reread.{EndsBy, IsReadThrough, ReachesTo}
 use Rattle.page.specs.declared.fault.Fault.{Fault}
 use Rattle.page.specs.declared.fault.Fault.TheVariants.{NoResource, ReadLog, ReadStore, WriteLog, WriteStore, BadWorkers, BadParting}
 use Rattle.page.specs.declared.page.Page.{Page}
@@ -79,15 +79,17 @@ by_device store_left options log store e read (inl failed) = subst (DeviceCause 
 by_device store_left options log store e read (inr cause) = device_cause (Some log) store_left options log store e read cause
 
 -- THE LOG is read to its end before a fault is returned
-pub comes_first : (log_read store_read : Type 0) (e : Fault) → OnceLogRead log_read e → LogComesFirst log_read store_read e
-comes_first log_read store_read NoResource h = tt
-comes_first log_read store_read ReadLog h = tt
-comes_first log_read store_read WriteLog h = tt
-comes_first log_read store_read WriteStore h = tt
-comes_first log_read store_read BadWorkers h = tt
-comes_first log_read store_read BadParting h = tt
-comes_first log_read store_read ReadStore h = inl h
-comes_first log_read store_read e h = h
+pub comes_first : (log_read : Type 0) (e : Fault) → OnceLogRead log_read e → LogComesFirst log_read e
+comes_first log_read BadWorkers h = tt
+comes_first log_read BadParting h = tt
+comes_first log_read e h = h
+
+pub comes_read : (log_read : Type 0) (e : Fault) → log_read → LogComesFirst log_read e
+comes_read log_read NoResource h = tt
+comes_read log_read ReadLog h = tt
+comes_read log_read BadWorkers h = tt
+comes_read log_read BadParting h = tt
+comes_read log_read e h = h
 
 -- all of a log is read if its device held the same before
 pub log_read : (before now : Option (List ℕ)) (m : ℕ) → Keeps before now → IsLogRead now m → IsLogRead before m
@@ -100,6 +102,11 @@ pub once_read : (before now : Option (List ℕ)) (m : ℕ) (e : Fault) → Keeps
 once_read before now m NoResource kept h = tt
 once_read before now m ReadLog kept h = tt
 once_read before now m e kept h = log_read before now m kept h
+
+-- by a reading to the end
+pub log_read_through : (text : Option (List ℕ)) (m : ℕ) → IsReadThrough text m → IsLogRead text m
+log_read_through None m read = tt
+log_read_through (Some held) m read = inl read
 
 -- by the last bytes, or by as many as no device holds
 pub log_read_all : (before now : Option (List ℕ)) (m offset : ℕ) → Keeps before now → ReachesTo before offset m → EndsBy now offset → IsLogRead before m

@@ -4,10 +4,10 @@ use Rattle.std.specs.Prelude.{OnOk, OnErr, Result}
 use Rattle.std.specs.Io.KnownBytes.{Appends, Keeps}
 use Rattle.device.specs.Continued.{Cuts, Shortens}
 use Rattle.device.specs.Transfer.{Flushes}
-use Rattle.recovery.specs.InPlace.{Continues, IsFlushed}
+use Rattle.recovery.specs.InPlace.{HoldsContinued, IsFlushed}
 
 -- cut, flushed, appended to, flushed
-pub continues : (kept : ℕ) (frames : List ℕ) (a b c d e : Option (List ℕ)) → Cuts a b kept → Keeps b c → Appends c d frames → Keeps d e → Continues kept frames a e
+pub continues : (kept : ℕ) (frames : List ℕ) (a b c d e : Option (List ℕ)) → Cuts a b kept → Keeps b c → Appends c d frames → Keeps d e → HoldsContinued kept frames a e
 continues kept frames None b c d e cut same more kept_too = tt
 continues kept frames (Some held) None c d e cut same more kept_too = absurd cut
 continues kept frames (Some held) (Some first) None d e cut same more kept_too = absurd same

@@ -21,7 +21,7 @@ use Rattle.recovery.specs.Text.{ReportContent}
 use Rattle.recovery.specs.Recovery.{AreCut, AreLawful, Recovered, Recovers}
 use Rattle.recovery.specs.Devices.{AreCutOf, DeviceCause, IsFaultOf, IsOfNoSink, IsResourceOrDevice, OnceRead}
 use Rattle.recovery.specs.StoreChanges.{AreDecodedLsns, DecodesLsns}
-use Rattle.recovery.specs.ByPieces.{AreMade, ForLawfulTexts, IsCauseOf, IsMade, IsMadeLawful, IsMadeRead, LogComesFirst, MeasuresLog, TextsCause, continued_log, store_made}
+use Rattle.recovery.specs.ByPieces.{AreMade, ForLawfulTexts, IsCauseOf, IsMade, IsMadeLawful, IsMadeRead, MeasuresLog, TextsCause, continued_log, store_made}
 use Rattle.recovery.specs.NewLogs.{AreCompleted, AreDelivered, AreLeft, IsResumable, Prepares}
 use Rattle.recovery.proofs.Bytes.{kept_text}
 use Rattle.recovery.proofs.ByPieces.{by_device, of_log}
@@ -124,10 +124,6 @@ module _ (e : Fault) where
   log_device log_left store_left options (inl own) = subst (DeviceCause log_left store_left options) (sym own) tt
   log_device log_left store_left options (inr own) = subst (DeviceCause log_left store_left options) (sym own) tt
 
-  pub log_after : (log_read store_read : Type 0) → (e ≡ ReadLog) ⊎ (e ≡ WriteLog) → LogComesFirst log_read store_read e
-  log_after log_read store_read (inl own) = subst (LogComesFirst log_read store_read) (sym own) tt
-  log_after log_read store_read (inr own) = subst (LogComesFirst log_read store_read) (sym own) tt
-
   -- while the new store is
   pub store_resource : (e ≡ ReadStore) ⊎ (e ≡ WriteStore) → IsResourceOrDevice e
   store_resource (inl own) = subst IsResourceOrDevice (sym own) tt
@@ -136,10 +132,6 @@ module _ (e : Fault) where
   pub store_device : (log_left store_left : Option (List ℕ)) (options : Options) → (e ≡ ReadStore) ⊎ (e ≡ WriteStore) → DeviceCause log_left store_left options e
   store_device log_left store_left options (inl own) = subst (DeviceCause log_left store_left options) (sym own) tt
   store_device log_left store_left options (inr own) = subst (DeviceCause log_left store_left options) (sym own) tt
-
-  pub store_after : (log_read store_read : Type 0) → store_read → (e ≡ ReadStore) ⊎ (e ≡ WriteStore) → LogComesFirst log_read store_read e
-  store_after log_read store_read read (inl own) = subst (LogComesFirst log_read store_read) (sym own) (inr read)
-  store_after log_read store_read read (inr own) = subst (LogComesFirst log_read store_read) (sym own) tt
 
 module _ {N S : Type 0} (new_log : NewLog N) (a b : N) (store : Sink S) (c d : S) {log_held store_held : Option (List ℕ)} (made : Prepares log_held store_held) (e : Fault) where
   pub log_left : (e ≡ ReadLog) ⊎ (e ≡ WriteLog) → new_log.leaves a b made.log made.kept made.frames e → Keeps (store.taken c) (store.taken d) → AreLeft new_log a b store c d log_held store_held e

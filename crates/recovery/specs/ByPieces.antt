@@ -64,17 +64,11 @@ OnceLogRead log_read NoResource = ⊤
 OnceLogRead log_read ReadLog = ⊤
 OnceLogRead log_read e = log_read
 
--- the same for a recovery. Faults of writing and of the options do not count. A fault of the store's device may also come after the store was
--- read to its end
-abbrev pub LogComesFirst : (log_read store_read : Type 0) → Fault → Type 0
-LogComesFirst log_read store_read NoResource = ⊤
-LogComesFirst log_read store_read ReadLog = ⊤
-LogComesFirst log_read store_read WriteLog = ⊤
-LogComesFirst log_read store_read WriteStore = ⊤
-LogComesFirst log_read store_read BadWorkers = ⊤
-LogComesFirst log_read store_read BadParting = ⊤
-LogComesFirst log_read store_read ReadStore = log_read ⊎ store_read
-LogComesFirst log_read store_read e = log_read
+-- the same for a recovery, whose options may have a fault too
+abbrev pub LogComesFirst : (log_read : Type 0) → Fault → Type 0
+LogComesFirst log_read BadWorkers = ⊤
+LogComesFirst log_read BadParting = ⊤
+LogComesFirst log_read e = OnceLogRead log_read e
 
 -- the bytes are a log's, with or without a torn tail
 abbrev pub IsLog : List ℕ → Type 0

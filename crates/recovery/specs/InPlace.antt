@@ -11,8 +11,8 @@ use Rattle.recovery.specs.TailFile.{tail_text, end_of, sum_of}
 
 -- THE LOG CONTINUED
 -- a device that held some bytes holds the first of them, followed by the frames
-abbrev pub Continues : (kept : ℕ) (frames : List ℕ) (before after : Option (List ℕ)) → Type 0
-Continues kept frames before after = IfSome before (λ held. after ≡ Some (take kept held ++ frames))
+abbrev pub HoldsContinued : (kept : ℕ) (frames : List ℕ) (before after : Option (List ℕ)) → Type 0
+HoldsContinued kept frames before after = IfSome before (λ held. after ≡ Some (take kept held ++ frames))
 
 -- and if it was known what it held, and what of that was flushed, all of that is flushed now
 abbrev pub IsFlushed : (before after flushed_before flushed_after : Option (List ℕ)) → Type 0
@@ -20,7 +20,7 @@ IsFlushed before after flushed_before flushed_after = IfSome before (λ _. Flush
 
 module _ {L : Type 0} (log : Sink L) (old new : L) where
   pub record IsContinued (kept : ℕ) (frames : List ℕ) : Type 0 where
-    pub continued : Continues kept frames (log.taken old) (log.taken new)
+    pub continued : HoldsContinued kept frames (log.taken old) (log.taken new)
     pub flushed : IsFlushed (log.taken old) (log.taken new) (log.flushed old) (log.flushed new)
 
   abbrev pub IsLogFlushed : Type 0
@@ -31,7 +31,7 @@ module _ {L : Type 0} (log : Sink L) (old new : L) where
   pub record IsBegun (kept : ℕ) (frames : List ℕ) : Type 0 where
     pub count : ℕ
     pub within : count ≤ length frames
-    pub begun : Continues kept (take count frames) (log.taken old) (log.taken new)
+    pub begun : HoldsContinued kept (take count frames) (log.taken old) (log.taken new)
     pub cut_first :
         0 < count → count < length frames
         → IfSome (log.flushed old) (λ _. IfSome (log.taken old) (λ held. log.flushed new ≡ Some (take kept held)))

@@ -8,9 +8,10 @@ ghost use Rattle.page.specs.Lsns.{AreLsnsOf, SpellsLsns};
 ghost use Rattle.changes.specs.Numbered.{StayNumbered};
 ghost use Rattle.page.specs.declared.profile.TheConstants.{PAGES};
 ghost use Rattle.device.specs.Reread.{IsReadThrough};
+ghost use Rattle.device.specs.Rereading.{StaysRead};
 ghost use Rattle.restart.specs.declared.options.Options.{Options};
 ghost use Rattle.restart.specs.Options.{AreInRange};
-ghost use Rattle.recovery.specs.ByPieces.{AreFew, AreMade, Continues, ContinuesLawful, ForLawfulTexts, ForTexts, HasSums, IfMeasured, IfRead, IsCauseOf, IsCauseOn, IsFileOf, IsLogRead, IsMadeLawful, IsMadeOf, IsMadeRead, IsOfLog, LogComesFirst, MeasuresLog, OnceLogRead, StoreFails, TextsCause};
+ghost use Rattle.recovery.specs.ByPieces.{AreFew, AreMade, Continues, ContinuesLawful, ForLawfulTexts, ForTexts, HasSums, IfMeasured, IfRead, IsCauseOf, IsCauseOn, IsFileOf, IsLogRead, IsMadeLawful, IsMadeOf, IsMadeRead, IsOfLog, MeasuresLog, OnceLogRead, StoreFails, TextsCause};
 ghost use Rattle.recovery.specs.Devices.{IsOfNoSink, IsResourceOrDevice, OnceRead};
 ghost use Rattle.recovery.specs.declared.store_pieces.TheConstants.{PIECE};
 ghost use Rattle.recovery.specs.declared.log_again.TheConstants.{ROOM};
@@ -20,9 +21,8 @@ ghost use Rattle.recovery.specs.StoreChanges.{DecodesLsns};
 ghost use Rattle.std.specs.Option.{ForSome};
 
 use crate::Report;
-use crate::log_again::{
-    check_log, fault_after, first_fault, read_store_first, sum_of_cut, sum_of_kept,
-};
+use crate::first_reading::{check_log, read_store_first};
+use crate::log_again::{fault_after, sum_of_cut, sum_of_kept};
 use crate::recovery::{frames_of, report_on};
 use crate::tail_file::TailFile;
 use changes::{Changes, Pages};
@@ -45,9 +45,10 @@ pub struct Continuation {
 }
 
 impl Continuation {
-    /// The file of the tail that is made. The sums are those of what the log's device holds: these
-    /// bytes are read again, and the fault is `BadLsn` with an offset if it no longer holds them.
-    pub fn file<L: Reread>(&self, log: &mut L, room: &mut [u8]) -> Result<TailFile, Fault>
+    /// The file of the tail, by which this log can be continued again. Its two sums are taken of what
+    /// the log's device holds: these bytes are read once more, and the fault is `BadLsn` with an
+    /// offset if it no longer holds them.
+    pub fn measure_tail<L: Reread>(&self, log: &mut L, room: &mut [u8]) -> Result<TailFile, Fault>
         requires { length room.old ≡ ROOM }
         ensures is { IfOk result (IsFileOf self.now) }
         ensures sums { IfOk result (λ file. IfMeasured (L.text log.old) self.now
@@ -55,6 +56,7 @@ impl Continuation {
         ensures fault { IfErr result (λ e. IfMeasured (L.text log.old) self.now
             (λ _. e ≡ ReadLog)) }
         ensures named { IfErr result IsOfRereading }
+        ensures grows { StaysRead L.text L.read_to log.old log.new }
         ensures cause { Blames ReadLog L.failures log.old log.new result }
     {
         let end = sum_of_kept(log, self.kept, room)?;
@@ -99,6 +101,7 @@ pub fn continue_on<L: Reread, P: Pages>(
     ensures numbered { OnOk result (StayNumbered P.Pages pages.old pages.new) }
     ensures fault { IfErr result (IsCauseOn P.Pages (L.text log.old) master pages.old) }
     ensures same { OnOk result (Keeps (L.text log.old) (L.text log.new)) }
+    ensures end { OnOk result (IsReadThrough (L.text log.old) (L.read_to log.new)) }
     ensures read { IfErr result
         (OnceLogRead (IsLogRead (L.text log.old) (L.read_to log.new))) }
     ensures named { IfErr result IsOfLog }
@@ -149,6 +152,7 @@ fn make_from<L: Reread>(
     ensures few { IfOk result (AreFew (λ text. SpellsLsns text store)) }
     ensures fault { IfErr result (IsCauseOf (L.text log.old) (λ text. SpellsLsns text store)) }
     ensures same { OnOk result (Keeps (L.text log.old) (L.text log.new)) }
+    ensures end { OnOk result (IsReadThrough (L.text log.old) (L.read_to log.new)) }
     ensures read { IfErr result
         (OnceLogRead (IsLogRead (L.text log.old) (L.read_to log.new))) }
     ensures named { IfErr result IsOfLog }
@@ -181,6 +185,7 @@ fn make<L: Reread>(
     ensures few { IfOk result (AreFew (λ text. DecodesLsns text decoded)) }
     ensures fault { IfErr result (IsCauseOf (L.text log.old) (λ text. DecodesLsns text decoded)) }
     ensures same { OnOk result (Keeps (L.text log.old) (L.text log.new)) }
+    ensures end { OnOk result (IsReadThrough (L.text log.old) (L.read_to log.new)) }
     ensures read { IfErr result
         (OnceLogRead (IsLogRead (L.text log.old) (L.read_to log.new))) }
     ensures named { IfErr result (λ e. IfRead decoded (IsOfLog e)) }
@@ -190,7 +195,7 @@ fn make<L: Reread>(
         Ok(store) => make_from(alloc, log, store, room),
         Err(fault) => {
             check_log(alloc, log, room)?;
-            Err(first_fault(log, fault, room))
+            Err(fault)
         }
     }
 }
@@ -198,8 +203,8 @@ fn make<L: Reread>(
 /// Reads a store and its log, and returns what is made of them. The store is read first, from its
 /// beginning to its end, then the log, as often as needed. Nothing is written.
 ///
-/// A failure of the log's device comes before all other faults: before one of those is returned, the
-/// log is read to its end, and if it fails there, the fault is `ReadLog`. Then come `ReadStore`, if
+/// A failure of the log's device comes before all other faults but `NoResource`: before one of those
+/// is returned, the log is read to its end, and if it fails there, the fault is `ReadLog`. Then come `ReadStore`, if
 /// the store's device failed, the faults of the log, those of the store, and those of a restart.
 pub fn read_and_make<L: Reread, R: Reread>(
     alloc: Global,
@@ -219,12 +224,12 @@ pub fn read_and_make<L: Reread, R: Reread>(
     ensures named { IfErr result IsOfNoSink }
     ensures log_same { OnOk result (Keeps (L.text log.old) (L.text log.new)) }
     ensures store_same { OnOk result (Keeps (R.text store.old) (R.text store.new)) }
-    ensures end { OnOk result (IsReadThrough (R.text store.old) (R.read_to store.new)) }
+    ensures log_end { OnOk result (IsReadThrough (L.text log.old) (L.read_to log.new)) }
+    ensures store_end { OnOk result (IsReadThrough (R.text store.old) (R.read_to store.new)) }
     ensures read_to_end { IfErr result
         (OnceRead (IsReadThrough (R.text store.old) (R.read_to store.new))) }
-    ensures log_read { IfErr result (ForTexts (L.text log.old) (R.text store.old) (λ log_held
-        store_held. LogComesFirst (IsLogRead log_held (L.read_to log.new))
-        (IsReadThrough store_held (R.read_to store.new)))) }
+    ensures log_read { IfErr result
+        (OnceLogRead (IsLogRead (L.text log.old) (L.read_to log.new))) }
     ensures log_source { Blames ReadLog L.failures log.old log.new result }
     ensures store_source { StoreFails result (R.failures store.old) (R.failures store.new) }
 {

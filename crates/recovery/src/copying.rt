@@ -5,6 +5,7 @@ ghost use Rattle.std.specs.Prelude.{◌≡◌, ◌≤◌, ◌+◌, ◌^◌, leng
 ghost use Rattle.std.specs.Io.KnownBytes.{Keeps};
 ghost use Rattle.page.specs.declared.fault.Fault.TheVariants.{ReadLog, WriteLog};
 ghost use Rattle.device.specs.Failures.{Counts};
+ghost use Rattle.device.specs.Rereading.{StaysRead};
 ghost use Rattle.recovery.specs.Devices.{AreOut};
 ghost use Rattle.recovery.specs.Copying.{IsCopyFault, IsOfCopying, TookPart, TookPiece};
 ghost use Rattle.recovery.specs.declared.log_again.TheConstants.{ROOM};
@@ -34,6 +35,7 @@ fn copy_piece<L: Reread, S: Sink>(
     ensures fault { IfErr result (IsCopyFault (L.text log.old) (offset + length room.old)) }
     ensures named { IfErr result IsOfCopying }
     ensures same { Keeps (L.text log.old) (L.text log.new) }
+    ensures grows { StaysRead L.text L.read_to log.old log.new }
     ensures unflushed { Keeps (S.flushed sink.old) (S.flushed sink.new) }
     ensures log_source { Blames ReadLog L.failures log.old log.new result }
     ensures log_sink { Blames WriteLog S.failures sink.old sink.new result }
@@ -63,6 +65,7 @@ fn copy_kept<L: Reread, S: Sink>(
         (Began S.Sink sink.old sink.new)) }
     ensures fault { IfErr result (IsCopyFault (L.text log.old) kept) }
     ensures named { IfErr result IsOfCopying }
+    ensures grows { StaysRead L.text L.read_to log.old log.new }
     ensures unflushed { Keeps (S.flushed sink.old) (S.flushed sink.new) }
     ensures log_source { Blames ReadLog L.failures log.old log.new result }
     ensures log_sink { Blames WriteLog S.failures sink.old sink.new result }

@@ -28,9 +28,9 @@ use std::alloc::Global;
 /// is written does not depend on that, nor on the options.
 ///
 /// `store` is read at offsets, first from its beginning to its end. Then `log` is read at offsets,
-/// a piece at a time, as often as needed. A failure of `log` comes before all other faults of
-/// reading: before one of those is returned, `log` is read to its end, and if it fails there, the
-/// fault is `ReadLog`.
+/// a piece at a time, from its beginning to its end and then as often as needed. A failure of `log`
+/// comes before all other faults of reading but `NoResource`: before one of those is returned, `log`
+/// is read to its end, and if it fails there, the fault is `ReadLog`.
 ///
 /// Then the new log is written, and flushed: by a [`CopiedLog`](crate::CopiedLog) to a sink, by a
 /// [`ContinuedLog`](crate::ContinuedLog) in place. It is the log without its torn tail, and the
@@ -52,8 +52,9 @@ use std::alloc::Global;
 /// instead of any other result up to the first write: memory was refused, or an LSN of the log or
 /// an offset in it is above 2^63 - 1.
 ///
-/// After `WriteLog` nothing of the new store is written. A copy is then a prefix of the new log; a
-/// log in place is as it was, or cut and continued by a prefix of what is appended. After
+/// After `WriteLog` nothing of the new store is written. A copy is then a prefix of the new log. In
+/// place there is a prefix of the file of the tail, and the log is as it was; or that file is whole
+/// and flushed, and the log is cut and continued by a prefix of what is appended. After
 /// `WriteStore` the new log is written and flushed, and a prefix of the new store is written. After
 /// `ReadLog` nothing is written, or, if `log` failed while it was copied, the same as after
 /// `WriteLog`. After `ReadStore` nothing is written, or, if `store` failed when it was read once
@@ -103,8 +104,11 @@ pub fn recover_in_pieces<LR: Reread, SR: Reread, N: NewLog, SW: Sink>(
     ensures log_flushed { OnOk result (N.flushed new_log.old new_log.new) }
     ensures store_flushed { OnOk result (IsStored SW.Sink out_store.old out_store.new) }
 
-    // The store is read to its end before anything is written, and the new log is written and
-    // flushed before the store's sink is touched. A log in place is guarded before it is changed.
+    // The store and the log are read to their ends before anything is written, and the new log is
+    // written and flushed before the store's sink is touched. A log in place is guarded before it is
+    // changed.
+    ensures log_read_first { ((new_log.new ≡ new_log.old) × (out_store.new ≡ out_store.old))
+        ⊎ IsReadThrough (LR.text log.old) (LR.read_to log.new) }
     ensures read_first { ((new_log.new ≡ new_log.old) × (out_store.new ≡ out_store.old))
         ⊎ IsReadThrough (SR.text store.old) (SR.read_to store.new) }
     ensures guarded { (new_log.new ≡ new_log.old) ⊎ N.guarded new_log.old new_log.new }
@@ -117,13 +121,12 @@ pub fn recover_in_pieces<LR: Reread, SR: Reread, N: NewLog, SW: Sink>(
         (out_store.new ≡ out_store.old)
         ⊎ IsLogOut N.NewLog new_log.old new_log.new log_held store_held) }
 
-    // A fault of what was read, or of writing, comes after the store was read to its end; and one of
-    // what was read, or of the store's device, after the log was.
+    // A fault of what was read, or of writing, comes after the store was read to its end. Each fault
+    // but those of the options, `ReadLog` and `NoResource` comes after the log was.
     ensures read_to_end { IfErr result
         (OnceRead (IsReadThrough (SR.text store.old) (SR.read_to store.new))) }
-    ensures log_read { IfErr result (ForTexts (LR.text log.old) (SR.text store.old) (λ log_held
-        store_held. LogComesFirst (IsLogRead log_held (LR.read_to log.new))
-        (IsReadThrough store_held (SR.read_to store.new)))) }
+    ensures log_read { IfErr result
+        (LogComesFirst (IsLogRead (LR.text log.old) (LR.read_to log.new))) }
 
     // A fault names a device if that device failed, and only then. If both sources failed, it names
     // the log's.

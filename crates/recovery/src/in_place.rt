@@ -35,18 +35,19 @@ pub fn continue_log<L: Continue>(log: &mut L, kept: u64, frames: &[u8]) -> Resul
 pub struct ContinuedLog<T, L> {
     /// The device that takes the file of the tail.
     pub tail: T,
-    /// The log.
+    /// The log, opened for writing. It must be the one that the recovery reads, which no contract
+    /// asks for.
     pub log: L,
 }
 
 impl<T: Sink, L: Continue> NewLog for ContinuedLog<T, L> {
     ghost use Rattle.std.specs.Prelude.{◌+◌};
-    ghost use Rattle.recovery.specs.InPlace.{Continues, LeavesContinued, IsLogFlushed, IsTailFirst, IsGuardedBy};
+    ghost use Rattle.recovery.specs.InPlace.{HoldsContinued, LeavesContinued, IsLogFlushed, IsTailFirst, IsGuardedBy};
 
     ghost failures = { λ x. T.failures x.tail + L.failures x.log };
 
     ghost holds = { λ old new log kept frames.
-        Continues kept frames (L.taken old.log) (L.taken new.log) };
+        HoldsContinued kept frames (L.taken old.log) (L.taken new.log) };
 
     ghost leaves = { λ old new log kept frames e.
         LeavesContinued L.Sink old.log new.log kept frames e };
@@ -64,7 +65,7 @@ impl<T: Sink, L: Continue> NewLog for ContinuedLog<T, L> {
         made: &Continuation,
         room: &mut [u8],
     ) -> Result<(), Fault> {
-        let file = made.file(log, room)?;
+        let file = made.measure_tail(log, room)?;
         match file.write(&mut self.tail) {
             Ok(()) => {}
             Err(Failed) => return Err(Fault::WriteLog),

@@ -1,9 +1,10 @@
-//! A log's device that is read again: to its end, since a failure of the device is the first fault
-//! of reading, and for the sums of the log's end.
+//! A log's device that is read once more: to its end before a fault is returned, since a failure of
+//! the device comes first, and for the sums of the log's end.
 
 ghost use Rattle.std.specs.Prelude.{◌≡◌, ◌≢◌, ◌<◌, ◌≤◌, ◌+◌, ◌^◌, ◌⊎◌, length, IfOk, IfErr, OnOk, IfSome, IsOkUnless};
 ghost use Rattle.std.specs.Io.KnownBytes.{IsAtEnd, Keeps};
 ghost use Rattle.device.specs.Reread.{IsReadThrough};
+ghost use Rattle.device.specs.Rereading.{StaysRead};
 ghost use Rattle.page.specs.declared.fault.Fault.TheVariants.{NoResource, ReadLog, ReadStore};
 ghost use Rattle.held_store.specs.Held.{held_text};
 ghost use Rattle.recovery.specs.Devices.{Gave, IsFaultOf};
@@ -17,12 +18,10 @@ ghost use Rattle.recovery.specs.StoreChanges.{AreDecodedLsns};
 ghost use Rattle.std.specs.Option.{ForSome};
 
 use crate::reading::read_from;
-use crate::store_changes::{DecodedLsns, read_lsns};
 use crate::tail_file::{END_BYTES, SUM_OF_NONE, sum_on};
-use device::{ReadFault, Reread, Source};
-use held_store::HeldStore;
+use device::Reread;
 use page::Fault;
-use passes::{PassFault, find_marks};
+use passes::PassFault;
 use std::alloc::Global;
 use wal::{BASED_HEADER_BYTES, LONGEST_FRAME};
 
@@ -32,9 +31,6 @@ const FRAMES: usize = (1 << 18) * (1 + LONGEST_FRAME / (1 << 18));
 
 /// How many bytes of a log are in memory at once: the frames, and a header before them.
 pub const ROOM: usize = BASED_HEADER_BYTES + FRAMES;
-
-/// How many bytes of a log are in memory at once if it is read only because its device may fail.
-const SMALL_ROOM: usize = 1 << 12;
 
 /// A log that is read in pieces has fewer bytes than the sum of this and the length of the room.
 const LONGEST_LOG: u64 = 1 << 63;
@@ -84,8 +80,8 @@ pub fn read_through<L: Reread>(log: &mut L, room: &mut [u8]) -> Result<(), Fault
     Ok(())
 }
 
-/// The fault to return for this one. A failure of a log's device comes before all other faults, so
-/// the device is read to its end: `ReadLog` if it fails there, otherwise the fault as it was.
+/// The fault to return for this one. A failure of a log's device comes first, so the device is read
+/// to its end: `ReadLog` if it fails there, otherwise the fault as it was.
 pub fn first_fault<L: Reread>(log: &mut L, fault: Fault, room: &mut [u8]) -> Fault
     requires some { 0 < length room.old }
     requires few { length room.old ≤ ROOM }
@@ -118,80 +114,6 @@ pub fn fault_after<L: Reread>(log: &mut L, stopped: PassFault, room: &mut [u8]) 
     first_fault(log, fault_of(stopped), room)
 }
 
-/// Reads all bytes that a store's source has left into memory, before its log is read. Then they
-/// can be read again, without a failure. Memory is taken as bytes come.
-///
-/// The errors are: `ReadLog`, if the store's source failed, or memory was refused, and `log` fails
-/// too when it is read to its end; `ReadStore`, if the source failed; `NoResource`, if memory was
-/// refused.
-pub fn hold_store<L: Reread, S: Source>(
-    alloc: Global,
-    log: &mut L,
-    store: &mut S,
-) -> Result<HeldStore, Fault>
-    ensures gave { IfOk result (λ held. Gave (S.left store.old) (held_text held)) }
-    ensures end { OnOk result (IsAtEnd (S.left store.new)) }
-    ensures log_unread { OnOk result (log.new ≡ log.old) }
-    ensures log_read { IfErr result
-        (OnceLogRead (IsLogRead (L.text log.old) (L.read_to log.new))) }
-    ensures fault { IfErr result (λ e. (e ≡ ReadLog) ⊎ IsFaultOf ReadStore e) }
-    ensures log_source { Blames ReadLog L.failures log.old log.new result }
-    ensures store_source { StoreFails result (S.failures store.old) (S.failures store.new) }
-{
-    let fault = match HeldStore::read(alloc, store) {
-        Ok(held) => return Ok(held),
-        Err(ReadFault::Failed) => Fault::ReadStore,
-        Err(ReadFault::NoMemory) => Fault::NoResource,
-    };
-    Err(first_fault(log, fault, &mut [0; SMALL_ROOM]))
-}
-
-/// Reads the PageLSNs of a store before its log: the store's device is read from its beginning to
-/// its end, and still holds the same bytes afterwards. Returns what the bytes encode, or their
-/// error. If the device failed, or memory was refused, a failure of the log's device comes first.
-pub fn read_store_first<L: Reread, R: Reread>(
-    alloc: Global,
-    log: &mut L,
-    store: &mut R,
-    room: &mut [u8],
-    pieces: &mut [u8],
-) -> Result<DecodedLsns, Fault>
-    requires room { length room.old ≡ ROOM }
-    requires pieces { length pieces.old ≡ PIECE }
-    ensures read { IfOk result (AreDecodedLsns (R.text store.old)) }
-    ensures end { OnOk result (IsReadThrough (R.text store.old) (R.read_to store.new)) }
-    ensures kept { OnOk result (Keeps (R.text store.old) (R.text store.new)) }
-    ensures log_unread { OnOk result (log.new ≡ log.old) }
-    ensures log_read { IfErr result
-        (OnceLogRead (IsLogRead (L.text log.old) (L.read_to log.new))) }
-    ensures fault { IfErr result (λ e. (e ≡ ReadLog) ⊎ IsFaultOf ReadStore e) }
-    ensures log_source { Blames ReadLog L.failures log.old log.new result }
-    ensures store_source { StoreFails result (R.failures store.old) (R.failures store.new) }
-{
-    match read_lsns(alloc, store, pieces) {
-        Ok(decoded) => Ok(decoded),
-        Err(fault) => Err(first_fault(log, fault, room)),
-    }
-}
-
-/// The fault of a log, if its device or its bytes have one; `NoResource` if memory was refused.
-pub fn check_log<L: Reread>(alloc: Global, log: &mut L, room: &mut [u8]) -> Result<(), Fault>
-    requires { length room.old ≡ ROOM }
-    ensures reads { OnOk result (ForSome (L.text log.old) IsLog) }
-    ensures same { OnOk result (Keeps (L.text log.old) (L.text log.new)) }
-    ensures read { IfErr result
-        (OnceLogRead (IsLogRead (L.text log.old) (L.read_to log.new))) }
-    ensures fault { IfErr result (LogCause (L.text log.old)) }
-    ensures named { IfErr result IsOfLog }
-    ensures cause { Blames ReadLog L.failures log.old log.new result }
-{
-    let _found = match find_marks(alloc, log, room) {
-        Ok(found) => found,
-        Err(stopped) => return Err(fault_after(log, stopped, room)),
-    };
-    Ok(())
-}
-
 /// The sum of some bytes followed by those that a log's device holds from an offset on, as many as
 /// the room takes. They are read again: `BadLsn` with the offset if the device no longer holds them
 /// all.
@@ -203,6 +125,7 @@ fn sum_piece<L: Reread>(log: &mut L, sum: u64, offset: u64, room: &mut [u8]) -> 
         (e ≡ ReadLog)) }
     ensures named { IfErr result IsOfRereading }
     ensures same { Keeps (L.text log.old) (L.text log.new) }
+    ensures grows { StaysRead L.text L.read_to log.old log.new }
     ensures cause { Blames ReadLog L.failures log.old log.new result }
 {
     let count = read_from(log, offset, room, Fault::ReadLog)?;
@@ -221,6 +144,7 @@ pub fn sum_of_kept<L: Reread>(log: &mut L, kept: u64, room: &mut [u8]) -> Result
     ensures fault { IfErr result (λ e. ForHeld (L.text log.old) kept (e ≡ ReadLog)) }
     ensures named { IfErr result IsOfRereading }
     ensures same { Keeps (L.text log.old) (L.text log.new) }
+    ensures grows { StaysRead L.text L.read_to log.old log.new }
     ensures cause { Blames ReadLog L.failures log.old log.new result }
 {
     let offset = kept.saturating_sub(END_BYTES as u64);
@@ -242,6 +166,7 @@ pub fn sum_of_cut<L: Reread>(
         (λ cut. sum ≡ sum_of cut)) }
     ensures fault { IfErr result (λ e. ForHeld (L.text log.old) end (e ≡ ReadLog)) }
     ensures named { IfErr result IsOfRereading }
+    ensures grows { StaysRead L.text L.read_to log.old log.new }
     ensures cause { Blames ReadLog L.failures log.old log.new result }
 {
     let mut sum = SUM_OF_NONE;

@@ -3,6 +3,7 @@
 ghost use Rattle.std.specs.Prelude.{◌≡◌, ◌⊎◌, ℕ, List, length, IfErr, OnOk};
 ghost use Rattle.page.specs.declared.fault.Fault.{Fault};
 ghost use Rattle.page.specs.declared.fault.Fault.TheVariants.{ReadLog, WriteLog};
+ghost use Rattle.device.specs.Rereading.{StaysRead};
 ghost use Rattle.recovery.specs.ByPieces.{ForMade};
 ghost use Rattle.recovery.specs.Calls.{Blames};
 ghost use Rattle.recovery.specs.Copying.{IsOfCopying};
@@ -31,10 +32,11 @@ pub trait NewLog {
     /// All that is written of it is flushed.
     ghost flushed: { (old new : Self) → Type 0 };
 
-    /// Before the log that was read is changed, that is flushed by which it can be made again.
+    /// The old log is as it was, or the file of its tail was flushed before it was changed. A copy
+    /// does not change it.
     ghost guarded: { (old new : Self) → Type 0 };
 
-    /// And that is what was written for this log.
+    /// The same, and the file is that of this log.
     ghost guards: { (old new : Self) (log : List ℕ) (kept : ℕ) (frames : List ℕ) → Type 0 };
 
     /// Writes the new log and flushes it. `log` holds the bytes of the old one, which may be read
@@ -59,6 +61,7 @@ pub trait NewLog {
         ensures fault { IfErr result (λ e. ForMade (R.text log.old) made.now
             (λ log kept frames. (e ≡ ReadLog) ⊎ (e ≡ WriteLog))) }
         ensures named { IfErr result IsOfCopying }
+        ensures log_grows { StaysRead R.text R.read_to log.old log.new }
         ensures log_source { Blames ReadLog R.failures log.old log.new result }
         ensures log_sink { Blames WriteLog failures self.old self.new result };
 }

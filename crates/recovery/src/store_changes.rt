@@ -6,8 +6,9 @@ ghost use Rattle.std.specs.Io.KnownBytes.{Keeps};
 ghost use Rattle.page.specs.declared.fault.Fault.TheVariants.{ReadStore, WriteStore, StoreSize};
 ghost use Rattle.page.specs.declared.profile.TheConstants.{PAGES, PAGE_BYTES};
 ghost use Rattle.page.specs.declared.sizes.TheConstants.{STORE_HEADER_BYTES};
-ghost use Rattle.device.specs.Reread.{IsReadThrough, ReachesTo};
+ghost use Rattle.device.specs.Reread.{IsReadThrough};
 ghost use Rattle.device.specs.Rereading.{StaysRead};
+ghost use Rattle.pieces.specs.Pieces.{ReadsRest};
 ghost use Rattle.recovery.specs.Calls.{Blames, IsStored, Took, Began};
 ghost use Rattle.recovery.specs.Devices.{IsFaultOf};
 ghost use Rattle.recovery.specs.declared.store_pieces.TheConstants.{PIECE};
@@ -32,7 +33,7 @@ const LONGEST_STORE: u64 = 1 << 63;
 
 /// The PageLSNs of what a store's header and the bytes after it encode. They are read to the
 /// device's end even after an error was found, and one piece of them is kept at a time.
-fn read_images<R: Reread>(
+fn read_lsns_behind<R: Reread>(
     mut reader: LsnReader,
     source: &mut R,
     room: &mut [u8],
@@ -41,8 +42,8 @@ fn read_images<R: Reread>(
     requires header { length reader ≡ STORE_HEADER_BYTES }
     ensures read { IfOk result (AreLsnsBehind reader (R.text source.old)) }
     ensures same { Keeps (R.text source.old) (R.text source.new) }
-    ensures end { OnOk result (ReachesTo (R.text source.old) STORE_HEADER_BYTES
-        (R.read_to source.old) → IsReadThrough (R.text source.old) (R.read_to source.new)) }
+    ensures end { OnOk result
+        (ReadsRest R.text R.read_to source.old source.new STORE_HEADER_BYTES) }
     ensures fault { IfErr result (IsFaultOf ReadStore) }
     ensures cause { Blames ReadStore R.failures source.old source.new result }
 {
@@ -85,7 +86,7 @@ pub fn read_lsns<R: Reread>(
         let store = reader.finish();
         return Ok(DecodedLsns { store });
     }
-    read_images(reader, source, room)
+    read_lsns_behind(reader, source, room)
 }
 
 /// The images that a store's device holds from page `first` on, as many as there is room for:
@@ -145,7 +146,7 @@ fn write_bytes<S: Sink>(sink: &mut S, bytes: &[u8]) -> Result<(), Fault>
 }
 
 /// Writes the images of all pages after their changes, a piece at a time.
-fn write_images<R: Reread, S: Sink>(
+fn write_changed_images<R: Reread, S: Sink>(
     store: &mut R,
     out: &mut S,
     changes: &Changes,
@@ -205,7 +206,7 @@ pub fn write_changed<R: Reread, S: Sink>(
 {
     let header = store_header(changes.len() as u32, master);
     write_bytes(out, &header)?;
-    write_images(store, out, changes, room)?;
+    write_changed_images(store, out, changes, room)?;
     match out.flush() {
         Ok(()) => Ok(()),
         Err(Failed) => Err(Fault::WriteStore),

@@ -2,7 +2,9 @@ use Rattle.std.proofs.Common.{◌≡◌, ◌++◌, ◌<◌, ◌≤◌, ◌+◌, 
 use Rattle.std.proofs.lemmas.List.{take-append-le}
 use Rattle.std.proofs.lemmas.Result.{err_from_is_err_and}
 use Rattle.device.specs.Reread.{EndsBy, ReadsFrom}
+use Rattle.device.proofs.Reach.{reach_below, reach_none, reach_on}
 use Rattle.passes.proofs.Finding.{first_bytes}
+use Rattle.passes.proofs.Reached.{keeps_same}
 use Rattle.wal.specs.declared.sizes.TheConstants.{BASED_HEADER_BYTES}
 use Rattle.passes.proofs.find.mark_at_start.Goals as goal
 
@@ -26,3 +28,10 @@ returns-clause-mark g c = λ text is.
     let size : length c.read_full_at.new.buffer ≡ BASED_HEADER_BYTES = omega (arith, c.read_full_at.auto.buffer, length-take BASED_HEADER_BYTES c.args.room.now, c.requires.room.takes) in
     c.in_ok-mark.ensures.mark text
     (front (g.S.Reread.text c.args.source.now) text c.read_full_at.new.buffer (drop BASED_HEADER_BYTES c.args.room.now) c.in_ok-count.count is c.in_ok-count.ensures.bytes (λ less. c.in_ok-count.ensures.end (omega (arith, less, size))) c.in_ok-count.ensures.within (omega (arith, size)))
+
+pub returns-clause-reach : goal.returns-clause-reach
+returns-clause-reach g c =
+    let held = g.S.Reread.text c.args.source.now in
+    let after = g.S.Reread.read_to c.read_full_at.new.source in
+    reach_below held (0 + c.in_ok-count.count) c.in_ok-mark.mark.offset after (omega (arith, c.in_ok-mark.ensures.within, length-take c.in_ok-count.count (c.read_full_at.new.buffer ++ drop BASED_HEADER_BYTES c.args.room.now)))
+    (reach_on held held (g.S.Reread.read_to c.args.source.now) after 0 c.in_ok-count.count (keeps_same held) (reach_none held (g.S.Reread.read_to c.args.source.now)) c.in_ok-count.ensures.joins)

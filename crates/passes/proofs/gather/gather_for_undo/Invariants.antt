@@ -12,7 +12,7 @@ abbrev pub invariant-loop-upto : goal.invariant-loop-upto
 invariant-loop-upto g l =
     record {
       room : length l.room ≡ length l.initial.room;
-      source : HasReadOn g.S.Reread.text g.S.Source.failures l.initial.source l.source;
+      source : HasReadOn g.S.Reread.text g.S.Source.failures g.S.Reread.read_to l.initial.source l.source;
       up_to : WantUpTo l.upto (wants_in l.gathering.wants);
       within : (text : List ℕ) (whole : LogContent) → AreMarks text whole l.marks → l.upto ≤ last_lsn (history whole);
       gathering : ForMarked (g.S.Reread.text l.initial.source) l.marks (λ whole. IsGathering (history whole) (losers_in l.tables) l.gathering);

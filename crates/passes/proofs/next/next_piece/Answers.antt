@@ -2,11 +2,12 @@ use Rattle.std.proofs.Common.{◌+◌, ◌-◌, ◌≤◌, length, ap₂, refl, 
 use Rattle.std.proofs.lemmas.Bool.{cases_lt}
 use Rattle.std.proofs.lemmas.Result.{err_from_is_err_and}
 use Rattle.log_laws.specs.Records.{◌⧺◌}
+use Rattle.device.proofs.Reach.{reach_on, reach_below, read_all}
 use Rattle.wal.specs.declared.sizes.TheConstants.{BASED_HEADER_BYTES, LONGEST_FRAME}
 use Rattle.pieces.specs.Pieces.{IsMark}
 use Rattle.pieces.proofs.Beginnings.{pieces_belong}
 use Rattle.passes.proofs.Nexts.{no_more, room_takes}
-use Rattle.passes.proofs.Reached.{told, base_is, piece_read, continues, continues_front}
+use Rattle.passes.proofs.Reached.{told, base_is, piece_read, continues, continues_front, keeps_same}
 use Rattle.passes.proofs.next.next_piece.Goals.{else-next-mark-via-then-next-mark+else-count-full, else-next-mark-via-else-next-mark}
 use Rattle.passes.proofs.next.next_piece.Goals as goal
 
@@ -62,3 +63,21 @@ returns-clause-ends g c = λ text before is mark same.
             | else-next-mark-via-else-next-mark w ↦ absurd (w.if-next-mark.false same)
           ]
     ])
+
+pub returns-clause-reach : goal.returns-clause-reach
+returns-clause-reach g c =
+    let held = g.S.Reread.text c.args.source.now in
+    let mark = c.args.mark in
+    let count = c.in_ok-count.count - BASED_HEADER_BYTES in
+    let after = g.S.Reread.read_to c.read_piece.new.source in
+    let far = reach_on held held (g.S.Reread.read_to c.args.source.now) after mark.offset count (keeps_same held) in
+    record {
+      reaches = λ starts. reach_below held (mark.offset + count) (mark.offset + c.saturating_sub-whole.result) after (omega (arith, c.saturating_sub-whole.ensures)) (far starts c.in_ok-count.ensures.joins);
+      end = λ same starts.
+          read_all held held after (mark.offset + count) (keeps_same held) (far starts c.in_ok-count.ensures.joins)
+          (c.in_ok-count.ensures.end
+          (elim c.else-next-mark.branch [
+            | else-next-mark-via-then-next-mark+else-count-full w ↦ omega (arith, w.if-count-full.false, c.in_ok-count.ensures.within, c.read_piece.auto.room)
+            | else-next-mark-via-else-next-mark w ↦ absurd (w.if-next-mark.false same)
+          ]));
+    }

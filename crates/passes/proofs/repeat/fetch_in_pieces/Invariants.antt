@@ -9,7 +9,7 @@ invariant-loop-taken g l =
     record {
       within : l.taken ≤ length l.wanted;
       room : length l.room ≡ length l.fn.room;
-      source : HasReadOn g.S.Reread.text g.S.Source.failures l.fn.source l.source;
+      source : HasReadOn g.S.Reread.text g.S.Source.failures g.S.Reread.read_to l.fn.source l.source;
       count : g.P.Pages.count l.pages ≡ g.P.Pages.count l.fn.pages;
       numbered : StayNumbered g.P.Pages l.fn.pages l.pages;
       fetched : FetchesAll g.P.Pages (g.S.Reread.text l.fn.source) l.marks l.wanted l.fn.pages l.pages l.taken;

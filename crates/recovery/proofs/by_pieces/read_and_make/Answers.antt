@@ -1,7 +1,4 @@
-use Rattle.std.proofs.Common.{subst}
 use Rattle.std.proofs.lemmas.Result.{err_from_is_err_and, IfErr-weaker}
-use Rattle.recovery.specs.ByPieces.{IsLogRead, OnceLogRead}
-use Rattle.recovery.proofs.ByPieces.{comes_first}
 use Rattle.recovery.proofs.NewLogs.{are_made, made_lawful, made_cause, first_resource, first_cause, first_no_sink, first_read}
 use Rattle.recovery.proofs.by_pieces.read_and_make.Goals as goal
 
@@ -24,13 +21,6 @@ pub returns-in_err-decoded-clause-read_to_end : goal.returns-in_err-decoded-clau
 returns-in_err-decoded-clause-read_to_end g c =
     let exit = err_from_is_err_and c.from_residual.result c.from_residual.ensures.1 in
     rw (exit.1, exit.2) (first_read c.in_err-decoded.field-0.0 _ c.in_err-decoded.ensures.fault)
-
-pub returns-in_err-decoded-clause-log_read : goal.returns-in_err-decoded-clause-log_read
-returns-in_err-decoded-clause-log_read g c =
-    let exit = err_from_is_err_and c.from_residual.result c.from_residual.ensures.1 in
-    rw (exit.1, exit.2) (λ log store is tells.
-    comes_first _ _ c.in_err-decoded.field-0.0
-    (subst (λ held. OnceLogRead (IsLogRead held (g.L.Reread.read_to c.read_store_first.new.log)) c.in_err-decoded.field-0.0) is c.in_err-decoded.ensures.log_read))
 
 pub returns-clause-answer : goal.returns-clause-answer
 returns-clause-answer g c = rw (← c.in_ok-decoded.ensures.log_unread) (are_made _ _ c.in_ok-decoded.decoded c.in_ok-decoded.ensures.read c.make.result c.make.ensures.answer c.make.ensures.measured c.make.ensures.lawful)

@@ -5,9 +5,10 @@ use Rattle.device.specs.Reread.{IsReadThrough}
 use Rattle.device.proofs.Reach.{read_still}
 use Rattle.passes.proofs.Reached.{still_told}
 use Rattle.recovery.specs.ByPieces.{store_made}
+use Rattle.recovery.proofs.ByPieces.{comes_first, comes_read, log_read_through}
 use Rattle.recovery.proofs.Delivered.{cut_lawful}
 use Rattle.recovery.proofs.StoreAgain.{again_at}
-use Rattle.recovery.proofs.NewLogs.{all_completed, log_after, log_device, log_left, log_resource, prepared, restored, resumable, store_after, store_device, store_left, store_resource}
+use Rattle.recovery.proofs.NewLogs.{all_completed, log_device, log_left, log_resource, prepared, restored, resumable, store_device, store_left, store_resource}
 use Rattle.recovery.proofs.in_pieces.recover_in_pieces.Goals as goal
 
 pub returns-in_err-made-clause-lawful : goal.returns-in_err-made-clause-lawful
@@ -80,15 +81,6 @@ returns-in_err-write-clause-guarded_first g c = λ log store is tells.
       | inr guards ↦ inr (prepared log store c.in_ok-made.made m, guards log still m.measures)
     ]
 
-pub returns-in_err-write-clause-log_read : goal.returns-in_err-write-clause-log_read
-returns-in_err-write-clause-log_read g c =
-    let exit = err_from_is_err_and c.from_residual-in_err-write.result c.from_residual-in_err-write.ensures.1 in
-    rw (exit.1, exit.2) (λ log store is tells.
-    let m = c.in_ok-made.ensures.answer log store is tells in
-    let still = still_told (g.LR.Reread.text c.args.log.now) (g.LR.Reread.text c.read_and_make.new.log) log c.in_ok-made.ensures.log_same is in
-    let one = c.in_err-write.ensures.fault log still m.measures in
-    log_after c.in_err-write.field-0.0 _ _ one)
-
 pub returns-in_err-write_changed-clause-lawful : goal.returns-in_err-write_changed-clause-lawful
 returns-in_err-write_changed-clause-lawful g c =
     let exit = err_from_is_err_and c.from_residual-in_err-write_changed.result c.from_residual-in_err-write_changed.ensures.1 in
@@ -159,18 +151,6 @@ returns-in_err-write_changed-clause-log_out_first g c = λ log store is tells.
     let still = still_told (g.LR.Reread.text c.args.log.now) (g.LR.Reread.text c.read_and_make.new.log) log c.in_ok-made.ensures.log_same is in
     inr (prepared log store c.in_ok-made.made m, c.in_ok-write.ensures.out log still m.measures)
 
-pub returns-in_err-write_changed-clause-log_read : goal.returns-in_err-write_changed-clause-log_read
-returns-in_err-write_changed-clause-log_read g c =
-    let exit = err_from_is_err_and c.from_residual-in_err-write_changed.result c.from_residual-in_err-write_changed.ensures.1 in
-    rw (exit.1, exit.2) (λ log store is tells.
-    let m = c.in_ok-made.ensures.answer log store is tells in
-    let again = still_told (g.SR.Reread.text c.args.store.now) (g.SR.Reread.text c.read_and_make.new.store) store c.in_ok-made.ensures.store_same tells in
-    let (after, shown, recovers) = m.remakes.recovers in
-    let at = again_at _ store m.remakes.before again m.remakes.spells in
-    let one = c.in_err-write_changed.ensures.fault m.remakes.before after at m.remakes.spells.fits shown in
-    let read = read_still (g.SR.Reread.text c.args.store.now) (g.SR.Reread.text c.read_and_make.new.store) _ _ c.in_ok-made.ensures.store_same c.in_ok-made.ensures.end c.write_changed.ensures.grows in
-    store_after c.in_err-write_changed.field-0.0 _ _ (subst (λ held. IsReadThrough held (g.SR.Reread.read_to c.write_changed.new.store)) tells read) one)
-
 pub returns-clause-lawful : goal.returns-clause-lawful
 returns-clause-lawful g c = λ base log store is tells range bytes.
     let m = c.in_ok-made.ensures.answer log store is tells in
@@ -219,3 +199,28 @@ returns-clause-log_out_first g c = λ log store is tells.
     let m = c.in_ok-made.ensures.answer log store is tells in
     let still = still_told (g.LR.Reread.text c.args.log.now) (g.LR.Reread.text c.read_and_make.new.log) log c.in_ok-made.ensures.log_same is in
     inr (prepared log store c.in_ok-made.made m, c.in_ok-write.ensures.out log still m.measures)
+
+-- THE LOG is read to its end before anything is written
+pub returns-in_err-made-clause-log_read : goal.returns-in_err-made-clause-log_read
+returns-in_err-made-clause-log_read g c =
+    let exit = err_from_is_err_and c.from_residual-in_err-made.result c.from_residual-in_err-made.ensures.1 in
+    rw (exit.1, exit.2) (comes_first _ c.in_err-made.field-0.0 c.in_err-made.ensures.log_read)
+
+pub returns-in_err-write-clause-log_read : goal.returns-in_err-write-clause-log_read
+returns-in_err-write-clause-log_read g c =
+    let exit = err_from_is_err_and c.from_residual-in_err-write.result c.from_residual-in_err-write.ensures.1 in
+    rw (exit.1, exit.2) (comes_read _ c.in_err-write.field-0.0 (log_read_through _ _ (read_still (g.LR.Reread.text c.args.log.now) (g.LR.Reread.text c.read_and_make.new.log) _ _ c.in_ok-made.ensures.log_same c.in_ok-made.ensures.log_end c.write.ensures.log_grows)))
+
+pub returns-in_err-write_changed-clause-log_read : goal.returns-in_err-write_changed-clause-log_read
+returns-in_err-write_changed-clause-log_read g c =
+    let exit = err_from_is_err_and c.from_residual-in_err-write_changed.result c.from_residual-in_err-write_changed.ensures.1 in
+    rw (exit.1, exit.2) (comes_read _ c.in_err-write_changed.field-0.0 (log_read_through _ _ (read_still (g.LR.Reread.text c.args.log.now) (g.LR.Reread.text c.read_and_make.new.log) _ _ c.in_ok-made.ensures.log_same c.in_ok-made.ensures.log_end c.write.ensures.log_grows)))
+
+pub returns-in_err-write-clause-log_read_first : goal.returns-in_err-write-clause-log_read_first
+returns-in_err-write-clause-log_read_first g c = inr (read_still (g.LR.Reread.text c.args.log.now) (g.LR.Reread.text c.read_and_make.new.log) _ _ c.in_ok-made.ensures.log_same c.in_ok-made.ensures.log_end c.write.ensures.log_grows)
+
+pub returns-in_err-write_changed-clause-log_read_first : goal.returns-in_err-write_changed-clause-log_read_first
+returns-in_err-write_changed-clause-log_read_first g c = inr (read_still (g.LR.Reread.text c.args.log.now) (g.LR.Reread.text c.read_and_make.new.log) _ _ c.in_ok-made.ensures.log_same c.in_ok-made.ensures.log_end c.write.ensures.log_grows)
+
+pub returns-clause-log_read_first : goal.returns-clause-log_read_first
+returns-clause-log_read_first g c = inr (read_still (g.LR.Reread.text c.args.log.now) (g.LR.Reread.text c.read_and_make.new.log) _ _ c.in_ok-made.ensures.log_same c.in_ok-made.ensures.log_end c.write.ensures.log_grows)

@@ -2,6 +2,7 @@ use Rattle.std.proofs.Common.{◌≡◌, ◌+◌, ◌-◌, List, ℕ, length, ta
 use Rattle.std.proofs.Math.Seq.{drop-drop}
 use Rattle.std.proofs.KnownBytes.{Keeps-refl, Keeps-trans}
 use Rattle.page.specs.declared.fault.Fault.TheVariants.{ReadLog}
+use Rattle.device.proofs.Reach.{grows_none, grows_on}
 use Rattle.passes.proofs.Reached.{still_told}
 use Rattle.recovery.specs.TailFile.{sum_on, sum_of}
 use Rattle.recovery.proofs.Copies.{piece_more}
@@ -14,6 +15,7 @@ loop-offset-init g c = record {
   room = c.requires;
   since = omega arith;
   same = Keeps-refl (g.L.Reread.text c.args.log.now);
+  grows = grows_none (g.L.Reread.text c.args.log.now) (g.L.Reread.read_to c.args.log.now);
   sum = λ text is. ap (λ n. sum_of (take n (drop c.args.kept text))) (let none : 0 ≡ c.args.kept - c.args.kept = omega arith in none);
   failures = refl;
 }
@@ -29,6 +31,7 @@ loop-offset-preserved g c =
       room = omega (arith, length-append c.sum_piece.new.room (drop wanted c.loop-offset.room), length-drop wanted c.loop-offset.room, c.sum_piece.auto.room, size, c.min-wanted.ensures, inv.room);
       since = omega (arith, inv.since);
       same = Keeps-trans (g.L.Reread.text c.args.log.now) (g.L.Reread.text c.loop-offset.log) (g.L.Reread.text c.sum_piece.new.log) inv.same c.in_ok-sum.ensures.same;
+      grows = grows_on (g.L.Reread.text c.args.log.now) (g.L.Reread.text c.loop-offset.log) (g.L.Reread.read_to c.args.log.now) (g.L.Reread.read_to c.loop-offset.log) (g.L.Reread.read_to c.sum_piece.new.log) inv.same inv.grows c.in_ok-sum.ensures.grows;
       sum = λ text is.
           let still = still_told (g.L.Reread.text c.args.log.now) (g.L.Reread.text c.loop-offset.log) text inv.same is in
           let rest : List ℕ = drop kept text in
@@ -44,3 +47,8 @@ loop-offset-preserved g c =
           ∙ ap (λ n. sum_of (take n rest)) more;
       failures = c.in_ok-sum.ensures.cause.innocent (ok_is_no_fault _ ReadLog) ∙ inv.failures;
     }
+
+pub returns-in_err-sum-clause-grows : goal.returns-in_err-sum-clause-grows
+returns-in_err-sum-clause-grows g c =
+    let inv = c.loop-offset.invariant in
+    grows_on (g.L.Reread.text c.args.log.now) (g.L.Reread.text c.loop-offset.log) (g.L.Reread.read_to c.args.log.now) (g.L.Reread.read_to c.loop-offset.log) (g.L.Reread.read_to c.sum_piece.new.log) inv.same inv.grows c.in_err-sum.ensures.grows

@@ -16,12 +16,12 @@ returns-in_err-write_bytes-clause-part g c = on_err c.from_residual.result (λ b
     let text = rewritten_text c.args.changes.now before.pages shown c.args.master c.store_header-header.result s (c.store_header-header.ensures.text ∙ ap (λ n. store_header n c.args.master) c.len.ensures) in
     subst (TookBeginning (g.S.Sink.taken c.args.out.now) (g.S.Sink.taken c.write_bytes.new.sink)) text (begins_longer _ _ c.store_header-header.result images c.in_err-write_bytes.ensures.beginning))
 
-pub returns-in_err-write_images-clause-part : goal.returns-in_err-write_images-clause-part
-returns-in_err-write_images-clause-part g c = on_err c.from_residual-in_err-write_images.result (λ before shown is fits s.
+pub returns-in_err-write_changed_images-clause-part : goal.returns-in_err-write_changed_images-clause-part
+returns-in_err-write_changed_images-clause-part g c = on_err c.from_residual-in_err-write_changed_images.result (λ before shown is fits s.
     let images = images_from 0 (length c.args.changes.now) shown in
     let text = rewritten_text c.args.changes.now before.pages shown c.args.master c.store_header-header.result s (c.store_header-header.ensures.text ∙ ap (λ n. store_header n c.args.master) c.len.ensures) in
-    subst (TookBeginning (g.S.Sink.taken c.args.out.now) (g.S.Sink.taken c.write_images.new.out)) text
-    (behind_front _ _ _ c.store_header-header.result images c.in_ok-write_bytes.ensures.all (c.in_err-write_images.ensures.part before shown is fits s)))
+    subst (TookBeginning (g.S.Sink.taken c.args.out.now) (g.S.Sink.taken c.write_changed_images.new.out)) text
+    (behind_front _ _ _ c.store_header-header.result images c.in_ok-write_bytes.ensures.all (c.in_err-write_changed_images.ensures.part before shown is fits s)))
 
 pub returns-in-Ok-clause-all : goal.returns-in-Ok-clause-all
 returns-in-Ok-clause-all g c = λ before shown is fits s.
@@ -30,8 +30,8 @@ returns-in-Ok-clause-all g c = λ before shown is fits s.
     record {
       out =
           subst (Appends (g.S.Sink.taken c.args.out.now) (g.S.Sink.taken c.flush.new.self)) text
-          (Appends-kept _ _ _ (c.store_header-header.result ++ images) (Appends-trans _ _ _ c.store_header-header.result images c.in_ok-write_bytes.ensures.all (c.in_ok-write_images.ensures.all before shown is fits s)) c.flush.ensures.bytes);
-      flushed = flushes_since _ _ _ _ (Keeps-trans _ _ _ c.in_ok-write_bytes.ensures.unflushed c.in_ok-write_images.ensures.unflushed) c.in-Ok.ensures.all;
+          (Appends-kept _ _ _ (c.store_header-header.result ++ images) (Appends-trans _ _ _ c.store_header-header.result images c.in_ok-write_bytes.ensures.all (c.in_ok-write_changed_images.ensures.all before shown is fits s)) c.flush.ensures.bytes);
+      flushed = flushes_since _ _ _ _ (Keeps-trans _ _ _ c.in_ok-write_bytes.ensures.unflushed c.in_ok-write_changed_images.ensures.unflushed) c.in-Ok.ensures.all;
     }
 
 pub returns-in-Err-clause-part : goal.returns-in-Err-clause-part
@@ -43,5 +43,5 @@ returns-in-Err-clause-part g c = λ before shown is fits s.
       length all,
       omega arith,
       subst (Appends (g.S.Sink.taken c.args.out.now) (g.S.Sink.taken c.flush.new.self)) (sym (take_all (length all) all (omega arith)))
-          (Appends-kept _ _ _ all (Appends-trans _ _ _ c.store_header-header.result images c.in_ok-write_bytes.ensures.all (c.in_ok-write_images.ensures.all before shown is fits s)) c.flush.ensures.bytes),
+          (Appends-kept _ _ _ all (Appends-trans _ _ _ c.store_header-header.result images c.in_ok-write_bytes.ensures.all (c.in_ok-write_changed_images.ensures.all before shown is fits s)) c.flush.ensures.bytes),
     )

@@ -1,0 +1,61 @@
+-- A pass over the log that a device holds: what it has done, and why it stops (own).
+use Rattle.std.specs.Prelude.{◌≡◌, ◌⊎◌, ⊤, ℕ, List, [], Option, Some}
+use Rattle.log_laws.specs.Records.{LogContent}
+use Rattle.wal.specs.Reads.{Reads, Cause}
+use Rattle.pieces.specs.declared.mark.Mark.{Mark}
+use Rattle.pieces.specs.Pieces.{IsFirstMark, IsMark}
+use Rattle.passes.specs.declared.fault.PassFault.{PassFault}
+use Rattle.passes.specs.declared.fault.PassFault.TheVariants as fault
+use Rattle.passes.specs.declared.pass.Pass.{Ghosts as Pass}
+use Rattle.passes.specs.Calls.{ForMark, ForText, ToEnd}
+use Rattle.passes.specs.Marks.{AreFound}
+use Rattle.passes.specs.Next.{IsBefore}
+
+-- P is true of each log that the bytes of a device read as, and of the log before its first record, if this is the first mark
+abbrev pub FromFirst : (held : Option (List ℕ)) → Mark → ((before whole : LogContent) → Type 0) → Type 0
+FromFirst held first P = (text : List ℕ) (whole before : LogContent) (torn : ℕ) → held ≡ Some text → Reads text whole torn → before.records ≡ [] → IsMark text before first → P before whole
+
+-- THE MARKS are found from the first one on, for a room of this size
+abbrev pub FindsFrom : (held : Option (List ℕ)) → Mark → (room : ℕ) → List Mark → (torn : ℕ) → Type 0
+FindsFrom held first room marks torn = ForText held (λ text. IsFirstMark text first → AreFound text room marks torn)
+
+module _ {P : Type 0} (pass : Pass P) where
+  -- IT HAS TAKEN
+  -- the piece between two marks
+  abbrev pub Takes : (held : Option (List ℕ)) → Mark → (old new : P) → (next : Mark) → Type 0
+  Takes held mark old new next =
+      ForMark held mark (λ text before. (after : LogContent) × IsMark text after next × ((whole : LogContent) (torn : ℕ) → Reads text whole torn → pass.passes old new whole before after))
+
+  -- all pieces from a mark to the log's end
+  abbrev pub TakesToEnd : (held : Option (List ℕ)) → Mark → (end : ℕ) → (old new : P) → Type 0
+  TakesToEnd held from end old new = ToEnd held from end (λ before whole. pass.passes old new whole before whole)
+
+  -- all pieces of the log
+  abbrev pub TakesAll : (held : Option (List ℕ)) → (first : Mark) → (old new : P) → Type 0
+  TakesAll held first old new = FromFirst held first (λ before whole. pass.passes old new whole before whole)
+
+  -- WHY IT STOPS: a device, or a fault of the pass at a record of a log that is known to be one
+  abbrev pub Stops : P → (whole before : LogContent) → PassFault → Type 0
+  Stops old whole before fault.Failed = ⊤
+  Stops old whole before (fault.Fault e) = pass.stops old whole before e
+
+  -- in the piece after a mark
+  abbrev pub StopsBefore : (held : Option (List ℕ)) → Mark → (end : ℕ) → P → PassFault → Type 0
+  StopsBefore held mark end old e = (text : List ℕ) (whole before : LogContent) → held ≡ Some text → IsBefore text whole before mark end → Stops old whole before e
+
+  -- between a mark and the log's end
+  abbrev pub StopsToEnd : (held : Option (List ℕ)) → Mark → (end : ℕ) → P → PassFault → Type 0
+  StopsToEnd held from end old e = ToEnd held from end (λ before whole. Stops old whole before e)
+
+  -- or a fault of bytes that are read for the first time, or of the pass
+  abbrev pub StopsFirst : List ℕ → PassFault → Type 0
+  StopsFirst text fault.Failed = ⊤
+  StopsFirst text (fault.Fault e) = Cause text e ⊎ pass.may_stop e
+
+  -- after a mark
+  abbrev pub StopsAtMark : (held : Option (List ℕ)) → Mark → PassFault → Type 0
+  StopsAtMark held mark e = ForMark held mark (λ text before. StopsFirst text e)
+
+  -- after the first one
+  abbrev pub StopsFrom : (held : Option (List ℕ)) → (first : Mark) → PassFault → Type 0
+  StopsFrom held first e = ForText held (λ text. IsFirstMark text first → StopsFirst text e)
