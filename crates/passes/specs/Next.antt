@@ -5,8 +5,9 @@ use Rattle.log_laws.specs.Records.{LogContent, history, last_lsn, ◌⧺◌}
 use Rattle.wal.specs.Reads.{Reads}
 use Rattle.wal.specs.declared.sizes.TheConstants.{BASED_HEADER_BYTES, LONGEST_FRAME}
 use Rattle.tables.specs.Pieces.{IsPieceOf}
+use Rattle.device.specs.Rereading.{ReadsRest}
 use Rattle.pieces.specs.declared.mark.Mark.{Mark}
-use Rattle.pieces.specs.Pieces.{IsMark, ReachesMark, ReadsRest}
+use Rattle.pieces.specs.Pieces.{IsMark, ReachesMark}
 use Rattle.passes.specs.declared.fault.PassFault.{PassFault}
 use Rattle.passes.specs.declared.fault.PassFault.TheVariants as fault
 use Rattle.passes.specs.Marks.{IsResource, LogCause}

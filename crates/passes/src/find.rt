@@ -2,8 +2,9 @@
 
 ghost use Rattle.std.specs.Prelude.{◌≡◌, ⊤, length, IfOk, IfErr, OnOk};
 ghost use Rattle.device.specs.Reread.{IsReadThrough};
+ghost use Rattle.device.specs.Rereading.{ReadsRest};
 ghost use Rattle.page.specs.declared.fault.Fault.TheVariants.{NoResource};
-ghost use Rattle.pieces.specs.Pieces.{IsFirstMark, ReachesMark, ReadsRest};
+ghost use Rattle.pieces.specs.Pieces.{IsFirstMark, ReachesMark};
 ghost use Rattle.passes.specs.Marks.{IsLow};
 ghost use Rattle.passes.specs.Calls.{IsRoom, HasRead, ForText, FindsMarks, TextCause};
 ghost use Rattle.passes.specs.Passes.{FindsFrom, TakesAll, StopsFrom};

@@ -1,6 +1,6 @@
 -- A log that is read in pieces: what was read, and what a piece shows of what comes next (own).
 use Rattle.std.specs.Prelude.{◌≡◌, ⊤, ℕ, ◌+◌, ◌-◌, ◌^◌, ◌<◌, ◌≤◌, List, [], ◌++◌, length, take, drop, Option, IfSome}
-use Rattle.device.specs.Reread.{EndsBy, IsReadThrough, ReachesTo, ReachJoins}
+use Rattle.device.specs.Reread.{EndsBy, ReachesTo, ReachJoins}
 use Rattle.page.specs.declared.fault.Fault.{Fault}
 use Rattle.page.specs.declared.fault.Fault.TheVariants.{BadLength, BadRecord, BadLsn}
 use Rattle.log_laws.specs.declared.start.LogStart.TheVariants.{Version2}
@@ -43,10 +43,6 @@ abbrev pub EndsInRoom : (held : Option (List ℕ)) → Mark → (count : ℕ) �
 EndsInRoom held mark count room = count < length room → EndsBy held (mark.offset + (count - BASED_HEADER_BYTES))
 
 -- HOW FAR a device is read without a gap, before and after a call
--- if it was read up to an offset, it is read to its end
-abbrev pub ReadsRest : {D : Type 0} → (text : D → Option (List ℕ)) → (read_to : D → ℕ) → (old new : D) → (offset : ℕ) → Type 0
-ReadsRest text read_to old new offset = ReachesTo (text old) offset (read_to old) → IsReadThrough (text old) (read_to new)
-
 -- if it was read up to a mark, it is read up to the end of the piece in the room
 abbrev pub JoinsPiece : {D : Type 0} → (text : D → Option (List ℕ)) → (read_to : D → ℕ) → (old new : D) → Mark → (count : ℕ) → Type 0
 JoinsPiece text read_to old new mark count = ReachJoins (text old) (read_to old) (read_to new) mark.offset (count - BASED_HEADER_BYTES)

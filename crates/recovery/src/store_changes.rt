@@ -7,8 +7,7 @@ ghost use Rattle.page.specs.declared.fault.Fault.TheVariants.{ReadStore, WriteSt
 ghost use Rattle.page.specs.declared.profile.TheConstants.{PAGES, PAGE_BYTES};
 ghost use Rattle.page.specs.declared.sizes.TheConstants.{STORE_HEADER_BYTES};
 ghost use Rattle.device.specs.Reread.{IsReadThrough};
-ghost use Rattle.device.specs.Rereading.{StaysRead};
-ghost use Rattle.pieces.specs.Pieces.{ReadsRest};
+ghost use Rattle.device.specs.Rereading.{ReadsRest, StaysRead};
 ghost use Rattle.recovery.specs.Calls.{Blames, IsStored, Took, Began};
 ghost use Rattle.recovery.specs.Devices.{IsFaultOf};
 ghost use Rattle.recovery.specs.declared.store_pieces.TheConstants.{PIECE};
