@@ -533,7 +533,10 @@ struct aries_fault aries_journal_page_to_write(const struct aries_journal *journ
                                                const struct aries_page_entry *pages, size_t pages_count,
                                                uint32_t page);
 
-/* Reports that the image of a page with this PageLSN was written to the store. It need not be the newest. 72, 79. */
+/*
+ * Reports that the image of a page with this PageLSN was written to the store. It need not be the newest. The next
+ * checkpoint leaves out what the image has, so sync the store before that checkpoint becomes the master. 72, 79.
+ */
 struct aries_fault aries_journal_page_written(struct aries_page_entry *pages, size_t pages_count, uint32_t page,
                                               uint64_t page_lsn);
 

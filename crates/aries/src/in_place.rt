@@ -9,7 +9,6 @@
 //! end, so that no two runs do this at once.
 
 ghost use Rattle.std.specs.Prelude.{◌≢◌};
-ghost use Rattle.page.specs.declared.fault.Fault.TheVariants.{NoResource};
 
 use crate::files::has_low_lsns;
 use crate::in_pieces::recover_opened;

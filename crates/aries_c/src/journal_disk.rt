@@ -66,7 +66,9 @@ pub extern "C" fn aries_journal_page_to_write(
 }
 
 /// Reports that the image of a page with this PageLSN was written to the store, as
-/// [`journal::page_written`] does.
+/// [`journal::page_written`] does. It need not be the newest image. The next checkpoint leaves out
+/// what the image has, so the store has to be synced before that checkpoint becomes the master.
+/// 72: there is no such page; 79: the LSN is above the PageLSN of the page.
 #[unsafe(no_mangle)]
 pub extern "C" fn aries_journal_page_written(
     pages: &mut [PageEntry],

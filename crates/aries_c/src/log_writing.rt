@@ -18,7 +18,7 @@ use std::alloc::Global;
 use wal::{LARGEST_BASE, based_header, plain_header, write_frame};
 
 /// Writes the header of a log to the front of a buffer: of version 1, with base LSN 0, 8 bytes; of
-/// version 2, with a base LSN of at most 2^63 - 1, 16 bytes. `told` becomes how many bytes it takes.
+/// version 2, with a base LSN of at most 2^63 - 1, 16 bytes. `told` gets how many bytes it takes.
 ///
 /// Faults, by number: 65 (not writable), for any other version or base LSN; `told` stays as it was.
 /// 64 (no room), if the buffer is too short.

@@ -1,5 +1,5 @@
 -- A recovery over devices: what was read, what is written, and its errors.
-use Rattle.std.proofs.Common.{ℕ, ◌≡◌, ◌+◌, List, ◌++◌, length, take, Option, Some, None, sym, subst, ap, ◌∙◌, arith, inl, inr, length-append}
+use Rattle.std.proofs.Common.{ℕ, ◌≡◌, ◌+◌, ◌⊎◌, List, ◌++◌, length, take, Option, Some, None, Result, Err, sym, subst, ap, ◌∙◌, arith, inl, inr, length-append}
 use Rattle.std.proofs.Math.Seq.{take-append-add}
 use Rattle.std.proofs.KnownBytes.{Appends-trans, Keeps-refl}
 use Rattle.std.specs.Io.KnownBytes.{Appends}
@@ -13,9 +13,12 @@ use Rattle.wal.proofs.CutBytes.{cuts_settle}
 use Rattle.device.specs.declared.traits.Sink.{Ghosts as Sink}
 use Rattle.device.specs.Transfer.{TookBeginning}
 use Rattle.restart.specs.declared.options.Options.{Options}
+use Rattle.recovery.specs.declared.log_text.LogText.{LogText}
+use Rattle.recovery.specs.declared.recovery.Remade.{Remade}
 use Rattle.recovery.specs.Text.{ReportContent}
-use Rattle.recovery.specs.Recovery.{Recovers, AreLawful, AreCut, RecoveryCause}
-use Rattle.recovery.specs.Devices.{Gave, SourcesGave, Makes, Leaves, IsOut, DeviceCause, Delivers, Completes, IsResourceOrDevice}
+use Rattle.recovery.specs.LogText.{kept_of, text_of}
+use Rattle.recovery.specs.Recovery.{Recovers, Recovered, AreLawful, AreCut, LawfulInput, RecoveryCause, log_with}
+use Rattle.recovery.specs.Devices.{AreRemade, Gave, IsRemadeLawful, SourcesGave, Makes, Leaves, FailsOnlyWith, IsFaultOf, IsOut, DeviceCause, Delivers, Completes, IsOfNoSink, IsResourceOrDevice}
 use Rattle.std.proofs.lemmas.Option.{same_Some}
 
 -- if the bytes of a source are known, they are what was read
@@ -23,17 +26,21 @@ pub told : (left : Option (List ℕ)) (bytes known : List ℕ) → Gave left byt
 told None bytes known gave e = absurd (cc)
 told (Some xs) bytes known gave e = gave ∙ same_Some _ _ e
 
--- what is made of what was read
-abbrev pub makes : {log_left store_left : Option (List ℕ)} (log store new_log new_store : List ℕ) (report : ReportContent) → SourcesGave log_left store_left log store → Recovers log store new_log new_store report → Makes log_left store_left
-makes {log_left} {store_left} log store new_log new_store report read recovers = record {
-  log = log;
-  store = store;
-  new_log = new_log;
-  new_store = new_store;
-  report = report;
-  are_read = read;
-  recovers = recovers;
-}
+-- what is made of what was read, if these bytes are kept of the log
+module _ (text : LogText) (made : Remade) (kept : List ℕ) (is : kept ≡ kept_of text made.report.torn) where
+  abbrev pub makes : {log_left store_left : Option (List ℕ)} → AreRemade log_left store_left (text, made) → Makes log_left store_left
+  makes found = record {
+    log = text_of text;
+    store = found.store;
+    new_log = log_with kept made;
+    new_store = store_text made.store;
+    report = made.report;
+    are_read = found.are_read;
+    recovers = subst (λ k. Recovers (text_of text) found.store (log_with k made) (store_text made.store) made.report) (sym is) found.remakes;
+  }
+
+  pub recovered : (x : LawfulInput) → IsRemadeLawful x (text, made) → Recovered x.base x.bytes.decoded.read x.bytes.decoded.before (log_with kept made) (store_text made.store) made.report
+  recovered x restores = subst (λ k. Recovered x.base x.bytes.decoded.read x.bytes.decoded.before (log_with k made) (store_text made.store) made.report) (sym is) restores
 
 -- and if the sources are known to hold lawful bytes, it is lawful
 abbrev pub told_lawful : {base : BasePages} {log_left store_left : Option (List ℕ)} (log store log_text store_text : List ℕ) → SourcesGave log_left store_left log store
@@ -60,26 +67,41 @@ device_cause log_left store_left options log store BadWorkers read h = h
 device_cause log_left store_left options log store BadParting read h = h
 device_cause log_left store_left options log store e read h = (log, store, read, h)
 
--- and it is not a sink's, so nothing is written
-pub never_sink : (log store : List ℕ) (options : Options) → (RecoveryCause log store options WriteLog → ⊥) × (RecoveryCause log store options WriteStore → ⊥)
-never_sink log store options = (
-  λ h.
-      elim h.1 [
-        | inl i ↦ i.behind.fault
-        | inr i ↦ elim i [ inl j ↦ j.3 | inr j ↦ j.1.1.holds ]
-      ],
-  λ h.
-      elim h.1 [
-        | inl i ↦ i.behind.fault
-        | inr i ↦ elim i [ inl j ↦ j.3 | inr j ↦ j.1.1.holds ]
-      ],
-)
+-- and it is no sink's
+pub never_sink : (log store : List ℕ) (options : Options) (e : Fault) → RecoveryCause log store options e → IsOfNoSink e
+never_sink log store options WriteLog h =
+    elim h.1 [
+      | inl i ↦ i.behind.fault
+      | inr i ↦ elim i [ inl j ↦ j.3 | inr j ↦ j.1.1.holds ]
+    ]
+never_sink log store options WriteStore h =
+    elim h.1 [
+      | inl i ↦ i.behind.fault
+      | inr i ↦ elim i [ inl j ↦ j.3 | inr j ↦ j.1.1.holds ]
+    ]
+never_sink log store options e h = tt
 
-pub nothing_out : {L S : Type 0} (out_log : Sink L) (a : L) (out_store : Sink S) (b : S) (log_left store_left : Option (List ℕ)) (log store : List ℕ) (options : Options) (e : Fault)
-    → RecoveryCause log store options e → IsOut out_log a a out_store b b log_left store_left e
-nothing_out out_log a out_store b log_left store_left log store options WriteLog h = absurd ((never_sink log store options).0 h)
-nothing_out out_log a out_store b log_left store_left log store options WriteStore h = absurd ((never_sink log store options).1 h)
-nothing_out out_log a out_store b log_left store_left log store options e h = (Keeps-refl (out_log.taken a), Keeps-refl (out_store.taken b))
+-- the fault of a source comes before the end of reading
+pub of_source : (own e : Fault) → (own ≡ ReadLog) ⊎ (own ≡ ReadStore) → IsFaultOf own e → (e ≡ ReadLog) ⊎ IsFaultOf ReadStore e
+of_source own e (inl log) (inl none) = inr (inl none)
+of_source own e (inl log) (inr is) = inl (is ∙ log)
+of_source own e (inr store) (inl none) = inr (inl none)
+of_source own e (inr store) (inr is) = inr (inr (is ∙ store))
+
+-- a fault that is passed on blames the same device
+pub blamed_on : {T U : Type 0} (own e : Fault) (before after : ℕ) (first : Result T Fault) (then : Result U Fault) → first ≡ Err e → then ≡ Err e
+    → FailsOnlyWith own first before after → FailsOnlyWith own then before after
+blamed_on own e before after first then is_first is_then found = record {
+  blamed = λ is. found.blamed (cc);
+  innocent = λ other. found.innocent (λ is. other (cc));
+}
+
+-- after a fault of no sink nothing is written
+pub nothing_out : {L S : Type 0} (out_log : Sink L) (a : L) (out_store : Sink S) (b : S) (log_left store_left : Option (List ℕ)) (e : Fault)
+    → IsOfNoSink e → IsOut out_log a a out_store b b log_left store_left e
+nothing_out out_log a out_store b log_left store_left WriteLog h = absurd h
+nothing_out out_log a out_store b log_left store_left WriteStore h = absurd h
+nothing_out out_log a out_store b log_left store_left e h = (Keeps-refl (out_log.taken a), Keeps-refl (out_store.taken b))
 
 pub is_resource : (e : Fault) → e ≡ NoResource → IsResourceOrDevice e
 is_resource e alone = subst IsResourceOrDevice (sym alone) tt

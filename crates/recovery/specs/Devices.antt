@@ -1,5 +1,5 @@
 -- What a recovery over devices reads, writes and leaves (own).
-use Rattle.std.specs.Prelude.{◌≡◌, ℕ, ◌+◌, ◌⊎◌, List, ◌++◌, Option, Some, IfSome, IfOk, IfErr, OnOk, Result, Err, MatchResult, ⊤}
+use Rattle.std.specs.Prelude.{◌≡◌, ℕ, ◌+◌, ◌≤◌, ◌⊎◌, List, ◌++◌, length, Option, Some, IfSome, IfOk, IfErr, OnOk, Result, Err, MatchResult, ⊤}
 use Rattle.std.specs.Io.KnownBytes.{Appends, Keeps, IsAtEnd}
 use Rattle.page.specs.declared.fault.Fault.{Fault}
 use Rattle.page.specs.declared.fault.Fault.TheVariants.{NoResource, ReadLog, ReadStore, WriteLog, WriteStore, BadWorkers, BadParting}
@@ -14,10 +14,12 @@ use Rattle.device.specs.declared.traits.Source.{Ghosts as Source}
 use Rattle.device.specs.declared.traits.Sink.{Ghosts as Sink}
 use Rattle.device.specs.Transfer.{TookBeginning, Flushes}
 use Rattle.restart.specs.declared.options.Options.{Options}
+use Rattle.recovery.specs.declared.log_text.LogText.{LogText}
 use Rattle.recovery.specs.declared.recovery.Remade.{Remade}
 use Rattle.recovery.specs.declared.store_pieces.DecodedStore.{DecodedStore}
 use Rattle.recovery.specs.Text.{ReportContent}
-use Rattle.recovery.specs.Recovery.{Recovers, Recovered, AreLawful, AreCut, LawfulInput, RecoveryCause, Decodes, log_with}
+use Rattle.recovery.specs.LogText.{text_of}
+use Rattle.recovery.specs.Recovery.{Recovers, Recovered, AreLawful, AreCut, LawfulInput, RecoveryCause, Decodes, Remakes, log_of, log_with}
 use Rattle.restart.specs.Options.{AreInRange, OptionsFault}
 
 -- the device of this fault has failed once if the fault is the result, otherwise not at all
@@ -62,6 +64,13 @@ pub record Makes (log_left store_left : Option (List ℕ)) : Type 0 where
   pub report : ReportContent
   pub are_read : SourcesGave log_left store_left log store
   pub recovers : Recovers log store new_log new_store report
+
+-- the bytes of a log and what is made of them and of a store's bytes, which the sources gave
+pub record AreRemade (log_left store_left : Option (List ℕ)) (made : LogText × Remade) : Type 0 where
+  pub within : made.0.from ≤ length made.0.back.items
+  pub store : List ℕ
+  pub are_read : SourcesGave log_left store_left (text_of made.0) store
+  pub remakes : Remakes (text_of made.0) store made.1
 
 -- a sink took these bytes, and all that it has taken is flushed
 pub record AreOut {D : Type 0} (sink : Sink D) (old new : D) (bytes : List ℕ) : Type 0 where
@@ -147,6 +156,11 @@ ForLawful log_left store_left options P =
     (base : BasePages) (log store : List ℕ) → log_left ≡ Some log → store_left ≡ Some store → AreInRange options
     → (bytes : AreLawful base log store) → P (record { base = base; log = log; store = store; bytes = bytes })
 
+-- what is made of it in memory, with the bytes of its log
+abbrev pub IsRemadeLawful : LawfulInput → LogText × Remade → Type 0
+IsRemadeLawful x (text, made) =
+    Recovered x.base x.bytes.decoded.read x.bytes.decoded.before (log_of (text_of text) made) (store_text made.store) made.report
+
 -- AFTER AN INTERRUPTION
 -- P is true of the lawful input of a restart, if it is known what the sources have left, the restart may have left that when it was
 -- interrupted, and the options are in range
@@ -190,3 +204,7 @@ IsOfNoSink e = ⊤
 -- P is true of the value, or the error is not a fault of the input
 abbrev pub UnlessDevice : {T : Type 0} → Result T Fault → (T → Type 0) → Type 0
 UnlessDevice answer P = MatchResult answer P IsResourceOrDevice
+
+-- what is made of lawful input in memory, or such an error
+abbrev pub RemakesFor : Result (LogText × Remade) Fault → LawfulInput → Type 0
+RemakesFor answer x = UnlessDevice answer (IsRemadeLawful x)

@@ -11,7 +11,7 @@ ghost use Rattle.device.specs.Reread.{IsReadThrough};
 ghost use Rattle.device.specs.Rereading.{StaysRead};
 ghost use Rattle.restart.specs.declared.options.Options.{Options};
 ghost use Rattle.restart.specs.Options.{AreInRange};
-ghost use Rattle.recovery.specs.ByPieces.{AreFew, AreMade, Continues, ContinuesLawful, ForLawfulTexts, ForTexts, HasSums, IfMeasured, IfRead, IsCauseOf, IsCauseOn, IsFileOf, IsLogRead, IsMadeLawful, IsMadeOf, IsMadeRead, IsOfLog, MeasuresLog, OnceLogRead, StoreFails, TextsCause};
+ghost use Rattle.recovery.specs.ByPieces.{AreFew, AreMade, Continues, ContinuesLawful, ForLawfulTexts, HasSums, IfMeasured, IfRead, IsCauseOf, IsCauseOn, IsFileOf, IsLogRead, IsMadeLawful, IsMadeOf, IsMadeRead, IsOfLog, MeasuresLog, OnceLogRead, StoreFails, TextsCause};
 ghost use Rattle.recovery.specs.Devices.{IsOfNoSink, IsResourceOrDevice, OnceRead};
 ghost use Rattle.recovery.specs.declared.store_pieces.TheConstants.{PIECE};
 ghost use Rattle.recovery.specs.declared.log_again.TheConstants.{ROOM};
@@ -204,8 +204,9 @@ fn make<L: Reread>(
 /// beginning to its end, then the log, as often as needed. Nothing is written.
 ///
 /// A failure of the log's device comes before all other faults but `NoResource`: before one of those
-/// is returned, the log is read to its end, and if it fails there, the fault is `ReadLog`. Then come `ReadStore`, if
-/// the store's device failed, the faults of the log, those of the store, and those of a restart.
+/// is returned, the log is read to its end, and if it fails there, the fault is `ReadLog`. Then
+/// come `ReadStore`, if the store's device failed, the faults of the log, those of the store, and
+/// those of a restart.
 pub fn read_and_make<L: Reread, R: Reread>(
     alloc: Global,
     log: &mut L,

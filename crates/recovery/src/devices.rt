@@ -8,14 +8,14 @@ ghost use Rattle.page.specs.declared.fault.Fault.TheVariants.{NoResource, ReadLo
 ghost use Rattle.device.specs.Failures.{Counts};
 ghost use Rattle.page.specs.File.{store_text};
 ghost use Rattle.recovery.specs.declared.store_pieces.TheConstants.{PIECE};
-ghost use Rattle.restart.specs.Options.{OptionsFault};
-ghost use Rattle.recovery.specs.Devices.{Gave, IsFaultOf, AreOut, DeviceCause, Completes, Delivers, ForCut, ForLawful, IsOut, LeavesCut, LeavesRemade, LogIsOut, NewLogIsOut, OnceRead, UnlessDevice, Writes};
+ghost use Rattle.restart.specs.Options.{AreInRange, OptionsFault};
+ghost use Rattle.recovery.specs.Devices.{Gave, IsFaultOf, AreOut, AreRemade, DeviceCause, Completes, Delivers, ForCut, ForLawful, IsOfNoSink, IsOut, LeavesCut, LeavesRemade, LogIsOut, NewLogIsOut, OnceRead, RemakesFor, UnlessDevice, Writes};
 ghost use Rattle.recovery.specs.Calls.{AreAtEnd, Blames, IsStored, Began};
 
 use crate::Report;
 use crate::decoding::decode_both;
 use crate::log_bytes::LogBytes;
-use crate::log_text::read_log_text;
+use crate::log_text::{LogText, read_log_text};
 use crate::recovery::{Remade, remake};
 use crate::store_pieces::{room_for_pieces, write_store};
 use device::{Failed, ReadFault, Sink, Source, read_all, write_all};
@@ -82,6 +82,42 @@ fn write_both<L: Sink, S: Sink>(
         },
         Err(Failed) => Err(Fault::WriteLog),
     }
+}
+
+/// Reads a log and a store to their ends, the log first. Returns the bytes of the log, and what a
+/// restart makes of both: nothing of it is written yet.
+///
+/// The errors are those of [`recover`], except those of the options and of the sinks.
+fn read_and_remake<LR: Source, SR: Source, G: Gate, R: Threads + Sync>(
+    rt: &R,
+    alloc: Global,
+    log: &mut LR,
+    store: &mut SR,
+    options: &Options,
+    gate: &G,
+    room: &mut [u8],
+) -> Result<(LogText, Remade), Fault>
+    requires range { AreInRange options.now }
+    requires room { length room.old ≡ PIECE }
+    ensures lawful { ForLawful (LR.left log.old) (SR.left store.old) options.now
+        (RemakesFor result) }
+    ensures made { IfOk result (AreRemade (LR.left log.old) (SR.left store.old)) }
+    ensures cause { IfErr result (DeviceCause (LR.left log.old) (SR.left store.old) options.now) }
+    ensures no_sink { IfErr result IsOfNoSink }
+    ensures end { OnOk result (AreAtEnd (LR.left log.new) (SR.left store.new)) }
+    ensures read_to_ends { IfErr result
+        (OnceRead (AreAtEnd (LR.left log.new) (SR.left store.new))) }
+    ensures log_read_first { (store.new ≡ store.old) ⊎ IsAtEnd (LR.left log.new) }
+    ensures log_unread { result ≡ Err ReadLog → store.new ≡ store.old }
+    ensures log_source { Blames ReadLog LR.failures log.old log.new result }
+    ensures store_source { Blames ReadStore SR.failures store.old store.new result }
+{
+    let workers = options.workers;
+    let (text, known) = read_log_text(rt, alloc, log, workers)?;
+    let (records, decoded) = decode_both(rt, alloc, &text, known, workers, store, room);
+    let decoded = decoded?;
+    let remade = remake(rt, alloc, records, decoded.store, options, gate)?;
+    Ok((text, remade))
 }
 
 /// Recovers a store from a log. Reads both devices to their ends, and makes the result in memory
@@ -171,11 +207,7 @@ pub fn recover<LR: Source, SR: Source, LW: Sink, SW: Sink, G: Gate, R: Threads +
 {
     check_options(options)?;
     let mut room = room_for_pieces(alloc)?;
-    let workers = options.workers;
-    let (text, known) = read_log_text(rt, alloc, log, workers)?;
-    let (records, decoded) = decode_both(rt, alloc, &text, known, workers, store, &mut room);
-    let decoded = decoded?;
-    let remade = remake(rt, alloc, records, decoded.store, options, gate)?;
+    let (text, remade) = read_and_remake(rt, alloc, log, store, options, gate, &mut room)?;
     let kept = LogBytes::kept_of(&text, &remade);
     write_both(out_log, out_store, &kept, &remade, &mut room)?;
     Ok(remade.report)

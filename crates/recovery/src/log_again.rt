@@ -1,21 +1,15 @@
 //! A log's device that is read once more: to its end before a fault is returned, since a failure of
 //! the device comes first, and for the sums of the log's end.
 
-ghost use Rattle.std.specs.Prelude.{◌≡◌, ◌≢◌, ◌<◌, ◌≤◌, ◌+◌, ◌^◌, ◌⊎◌, length, IfOk, IfErr, OnOk, IfSome, IsOkUnless};
-ghost use Rattle.std.specs.Io.KnownBytes.{IsAtEnd, Keeps};
-ghost use Rattle.device.specs.Reread.{IsReadThrough};
+ghost use Rattle.std.specs.Prelude.{◌≡◌, ◌≢◌, ◌<◌, ◌≤◌, ◌+◌, ◌^◌, ◌⊎◌, length, IfOk, IfErr, OnOk, IsOkUnless};
+ghost use Rattle.std.specs.Io.KnownBytes.{Keeps};
 ghost use Rattle.device.specs.Rereading.{StaysRead};
 ghost use Rattle.page.specs.declared.fault.Fault.TheVariants.{NoResource, ReadLog, ReadStore};
-ghost use Rattle.held_store.specs.Held.{held_text};
-ghost use Rattle.recovery.specs.Devices.{Gave, IsFaultOf};
 ghost use Rattle.recovery.specs.TailFile.{IsEndSum, IsSumOn, sum_of};
-ghost use Rattle.recovery.specs.ByPieces.{IsOfLog, OnceLogRead, IsLogRead, fault_of, StoreFails, IsLog, LogCause};
+ghost use Rattle.recovery.specs.ByPieces.{OnceLogRead, IsLogRead, fault_of};
 ghost use Rattle.recovery.specs.declared.log_again.TheConstants.{ROOM};
-ghost use Rattle.recovery.specs.declared.store_pieces.TheConstants.{PIECE};
 ghost use Rattle.recovery.specs.Copying.{IsOfRereading};
 ghost use Rattle.recovery.specs.Calls.{Blames, FailsMore, ForHeld, ForKept, ForPiece, ForPieceHeld, ForRest};
-ghost use Rattle.recovery.specs.StoreChanges.{AreDecodedLsns};
-ghost use Rattle.std.specs.Option.{ForSome};
 
 use crate::reading::read_from;
 use crate::tail_file::{END_BYTES, SUM_OF_NONE, sum_on};

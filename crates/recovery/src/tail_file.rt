@@ -1,11 +1,11 @@
 //! The file of a tail: what a recovery in place keeps on the disk while it continues the log. With
 //! it, a continuation that a power failure ended can be made again.
 
-ghost use Rattle.std.specs.Prelude.{◌≡◌, ◌↔◌, ◌+◌, ◌-◌, ◌≤◌, ◌++◌, drop, length, take, IfSome, IsTrue, OnOk, OnErr, is_some, true};
+ghost use Rattle.std.specs.Prelude.{◌≡◌, ◌↔◌, ◌+◌, ◌-◌, ◌≤◌, drop, length, take, IfSome, IsTrue, OnOk, OnErr, is_some, true};
 ghost use Rattle.std.specs.Int.{w64, from_be_bytes};
 ghost use Rattle.device.specs.Failures.{Counts};
 ghost use Rattle.recovery.specs.Devices.{AreOut};
-ghost use Rattle.recovery.specs.TailFile.{sum_on, sum_of, end_of, IfTailFile, file_head, file_front, file_text};
+ghost use Rattle.recovery.specs.TailFile.{sum_on, sum_of, IfTailFile, file_head, file_front, file_text};
 ghost use Rattle.recovery.specs.Calls.{Began};
 
 use device::{Failed, Sink, write_all};
