@@ -8,8 +8,6 @@
 //! or that a power failure ended, can be run again. The log is locked from the first reading to the
 //! end, so that no two runs do this at once.
 
-ghost use Rattle.std.specs.Prelude.{◌≢◌};
-
 use crate::files::has_low_lsns;
 use crate::in_pieces::recover_opened;
 use crate::left::{Finished, finish, remove_left};
