@@ -9,37 +9,24 @@ usage: tests/edits.py NAME..            at the top of the repository: tries both
        tests/run.py other-edits         tries those that the gate does not try, of the crates that differ from their lines in edits/tried.txt
 
 An edit counts as refused only if a contract refuses it. One that the prover refuses for a name or a form says nothing of a contract and counts as bad: a proof
-file names what the edit took away, a function has no proof for its form, the text cannot be read, or the prover stopped at a limit. Prints a line for each edit
-and one for each crate; the status is 1 if one edit is bad or not refused. Trying takes a check of the crate and half a minute or more for each edit.
+file names what the edit took away, a function has no proof for its form, or the text cannot be read. Edits of different functions are tried together
+(tests/at_once.py). Prints a line for each edit and one for each crate; the status is 1 if one edit is bad or not refused. Trying takes a check of the crate,
+unless the crate was checked here before, and 5 to 15 seconds for each edit.
 """
 import argparse
 import glob
 import os
 import re
-import shutil
-import subprocess
 import sys
 import tempfile
 
 sys.dont_write_bytecode = True  # no folder of it beside the tests
+import at_once
 import tried
+from at_once import changes_of
 from program import TOP
 
 GATE, OTHERS = "crates/*/must-fail", "edits/*"
-
-
-def changes_of(edit):
-    """The changes of an edit: of each the file, the text that stands there once, and what comes in its place."""
-    path = old = None
-    with open(edit, encoding="utf-8") as lines:
-        for line in lines.read().split("\n"):
-            word, _, rest = line.partition(" ")
-            if word == "file:":
-                path = rest.strip()
-            elif word == "old:":
-                old = rest
-            elif word == "new:":
-                yield path, old, rest
 
 
 def cannot_be_applied(crate, edit):
@@ -120,48 +107,21 @@ def check_edits(tally):
     tally.say("each wrong body has its own name", len(names) == len(set(names)))
 
 
-# What `rt must-fail` says of an edit, and the words by which it says that no contract refused it.
-TRIED = re.compile(r"(?:rt: )?must-fail (?P<edit>\S+): (?P<verdict>[A-Za-z ,]+?)(?: (?P<remark>\(only .*)|: (?P<reason>.*))?$")
-NO_CONTRACT = re.compile(r"\(only |does not cover|is no goal|has no goal|not in scope|: record `Rattle\.|error\[[\w-]+\]")
-
-
-def verdicts(lines):
-    """Of each edit that was tried its name, and why it is bad or None."""
-    for line in lines:
-        found = TRIED.match(line.strip())
-        if not found or not found["edit"].endswith(".edit"):
-            continue
-        is_refused = found["verdict"].startswith("refused") and not NO_CONTRACT.search(line)
-        yield found["edit"], None if is_refused else line.strip()
-
-
-def copied(folder, crate, kinds):
-    """A copy of the repository in which these edits of the crate, and no others, are those that the gate tries."""
-    copy = os.path.join(folder, "aries")
-    shutil.copytree(TOP, copy, symlinks=True, ignore=shutil.ignore_patterns(".git", "out", "must-fail"))
-    room = os.path.join(copy, "crates", crate, "must-fail")
-    os.makedirs(room)
-    for pattern in kinds:
-        for name, edit in edits_in(pattern):
-            if name == crate:
-                shutil.copy(edit, room)
-    return copy, len(os.listdir(room))
-
-
 def try_edits(crate, kinds):
-    """Tries edits of a crate as the gate does, over what it keeps of proofs; whether a contract refuses each."""
-    words = {name: value for name, value in os.environ.items() if name != "CI"}  # with it `rt ci` takes no names, lest they stand for the gate
+    """Tries edits of a crate in a copy of the repository; whether a contract refused each."""
+    edits = [edit for pattern in kinds for name, edit in edits_in(pattern) if name == crate]
     with tempfile.TemporaryDirectory(prefix="aries-edits-") as room:
-        copy, count = copied(room, crate, kinds)
-        ran = subprocess.run(["rt", "ci", crate], cwd=copy, env=words, stdout=subprocess.PIPE, stderr=subprocess.STDOUT, text=True)
-    said = dict(verdicts(ran.stdout.splitlines()))
-    bad = [why for why in said.values() if why]
-    for edit, why in sorted(said.items()):
-        print(why or f"{edit}: refused by a contract")
-    if len(said) != count:
-        print(f"{crate}: of {count} edits {len(said)} were tried; the last lines:", *ran.stdout.splitlines()[-5:], sep="\n")
-    print(f"{crate}: {count} edits, {len(said) - len(bad)} refused by a contract, {len(bad)} not", flush=True)
-    return not bad and len(said) == count
+        copy = at_once.Crate(room, crate)
+        if said := copy.begin():
+            print(f"{crate} is not proved as it stands; the last lines:", *said[-5:], sep="\n")
+            return False
+        bad = 0
+        for round in copy.rounds(edits):
+            for edit, why in copy.verdicts(round):
+                bad += why is not None
+                print(f"{os.path.relpath(edit, TOP)}: {why or 'refused by a contract'}", flush=True)
+    print(f"{crate}: {len(edits)} edits, {len(edits) - bad} refused by a contract, {bad} not", flush=True)
+    return not bad
 
 
 def try_others(crate):
@@ -181,7 +141,7 @@ def check_other_edits(tally):
     if not reasons:
         tally.say(f"{tried.KEPT}: nothing differs", True)
         return
-    print(f"{sum(len(tried.others_of(crate)) for crate in reasons)} edits are to be tried, each for half a minute or more:", flush=True)
+    print(f"{sum(len(tried.others_of(crate)) for crate in reasons)} edits are to be tried, each for 5 to 15 seconds after a check of its crate:", flush=True)
     for crate, why in reasons.items():
         print(f"  {len(tried.others_of(crate))} of {crate}: {why}", flush=True)
     for crate in reasons:
