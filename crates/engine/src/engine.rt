@@ -13,7 +13,7 @@ use crate::change::{Change, Changes, value_of};
 use crate::files::{OpenFiles, open};
 use anyhow::{Error, Result};
 use journal::{Journal, Refusal};
-use page::{Page, SLOTS, decode_store};
+use page::{Page, SLOTS, Store, decode_store};
 use seeded::Random;
 use std::alloc::Global;
 use std::fs::{self, OpenFile};
@@ -242,6 +242,21 @@ impl<F: OpenFile + Write + Seek, W: Write> Engine<F, W> {
     }
 }
 
+/// The store in a file.
+fn store_in<R: Files + AllocGlobal>(rt: &R, store: &str) -> Result<Store> {
+    let bytes = fs::read(rt, store)?;
+    Ok(decode_store(rt.alloc(), &bytes)?)
+}
+
+/// The journal that continues the log and the store in these files, and how many pages it has.
+fn journal_of<R: Files + AllocGlobal>(rt: &R, log: &str, store: &str) -> Result<(Journal, u32)> {
+    let bytes = fs::read(rt, log)?;
+    let (records, _) = read_log(rt.alloc(), &bytes)?;
+    let pages = store_in(rt, store)?;
+    let journal = Journal::open(rt.alloc(), &records, &pages).map_err(refused)?;
+    Ok((journal, (pages.pages.len() & 0xffff_ffff) as u32))
+}
+
 /// Works on a log and a store that a recovery left, or that were made.
 pub fn work<R: Print + Files + AllocGlobal>(
     rt: &R,
@@ -250,16 +265,15 @@ pub fn work<R: Print + Files + AllocGlobal>(
     seed: u32,
     steps: u32,
 ) -> Result<()> {
+    let (journal, count) = journal_of(rt, log, store)?;
+    let files = open(rt, log, store)?;
     let alloc = rt.alloc();
-    let bytes = fs::read(rt, log)?;
-    let (records, _) = read_log(alloc, &bytes)?;
-    let pages = decode_store(alloc, &fs::read(rt, store)?)?;
     let mut engine = Engine {
         alloc,
-        journal: Journal::open(alloc, &records, &pages).map_err(refused)?,
-        files: open(rt, log, store)?,
+        journal,
+        files,
         out: io::writer(rt),
-        count: (pages.pages.len() & 0xffff_ffff) as u32,
+        count,
         changes: Changes::new(alloc),
         random: Random::new(seed as u64),
     };
@@ -282,7 +296,7 @@ fn print_page<W: Write>(page: &Page, out: &mut W) -> Result<()> {
 
 /// Prints the cells of a store that have a value, a line each: PAGE.SLOT=VALUE.
 pub fn print_cells<R: Print + Files + AllocGlobal>(rt: &R, store: &str) -> Result<()> {
-    let pages = decode_store(rt.alloc(), &fs::read(rt, store)?)?;
+    let pages = store_in(rt, store)?;
     let mut out = io::writer(rt);
     for page in &pages.pages {
         print_page(page, &mut out)?;
