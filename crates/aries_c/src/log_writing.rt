@@ -17,11 +17,11 @@ use crate::{DirtyPage, Entry, Fault, Record};
 use std::alloc::Global;
 use wal::{LARGEST_BASE, based_header, plain_header, write_frame};
 
-/// Writes the header of a log to the front of a buffer: of version 1, with base LSN 0, 8 bytes; of
-/// version 2, with a base LSN of at most 2^63 - 1, 16 bytes. `told` gets how many bytes it takes.
+/// Writes the header of a log to the front of a buffer, and its length in bytes to `told`: 8 for
+/// version 1, with base LSN 0; 16 for version 2, with a base LSN of at most 2^63 - 1.
 ///
 /// Faults, by number: 65 (not writable), for any other version or base LSN; `told` stays as it was.
-/// 64 (no room), if the buffer is too short.
+/// 64 (no room), if the buffer is too short; `told` gets the length all the same.
 #[unsafe(no_mangle)]
 pub extern "C" fn aries_write_log_header(
     version: u32,
