@@ -13,9 +13,10 @@ from program import TOP, text_of
 
 HEAD = re.compile(r'^(?P<indent> *)(?:pub(?:\(crate\))? )?(?:const |unsafe )*(?:extern "C" )?fn (?P<name>\w+)')
 
-# What the prover says of a place in a source, and of one in the proofs of a function.
+# What the prover says of a place in a source, of one in the proofs of a function, and of one in any proof or definition.
 OF_SOURCE = re.compile(r"(?:note: )?(?:\./)?(?P<path>src/\S+?):(?P<line>\d+):\d+: (?:error|it is not proved)")
 OF_PROOF = re.compile(r"(?:\./)?proofs/(?P<place>\S+)/\w+\.antt:\d+:\d+: error")
+OF_TEXT = re.compile(r"(?:\./)?(?:proofs|specs)/\S+\.antt:\d+:\d+: error")
 
 # The words by which it says that no contract was tried: the text cannot be read, or a proof names what the edit took away.
 FORM = re.compile(r"does not cover|is no goal|has no goal|not in scope|: record `Rattle\.|has no field|has no `|was not admitted|error\[[\w-]+\]")
@@ -65,7 +66,7 @@ class Crate:
 
     def __init__(self, room, name):
         copy = os.path.join(room, "aries")
-        shutil.copytree(TOP, copy, symlinks=True, ignore=shutil.ignore_patterns(".git", "must-fail"))
+        shutil.copytree(TOP, copy, symlinks=True, ignore=shutil.ignore_patterns(".git", "must-fail", "incremental"))
         self.name = name
         self.folder = os.path.join(copy, "crates", name)
         self.kept = os.path.join(self.folder, "out", "incremental")
@@ -135,9 +136,9 @@ class Crate:
         linked(self.base, self.kept)
         status, said = self.check(texts)
         if len(edits) == 1:
-            yield edits[0], verdict_on(status, [line for line in said if OF_SOURCE.match(line) or OF_PROOF.match(line)], said)
+            yield edits[0], verdict_on(status, [line for line in said if OF_SOURCE.match(line) or OF_TEXT.match(line)], said)
         elif status != 1 or any(re.search(r"\berror\[", line) for line in said):
-            # One of them is no code: each half by itself.
+            # One of them is no code, or the prover stopped at a limit: each half by itself.
             for half in (edits[: len(edits) // 2], edits[len(edits) // 2 :]):
                 yield from self.verdicts(half)
         else:
@@ -169,6 +170,8 @@ def verdict_on(status, own, said):
     """What speaks against an edit of which the prover said this: None if a contract refused it."""
     if status == 0:
         return "NOT REFUSED: the crate is proved with it"
+    if status != 1:
+        return f"no verdict, since `rt check` ended with status {status}: {[line for line in said if line][-1:]}"
     if any(not FORM.search(line) for line in own):
         return None
     return f"refused for a name or a form only: {(own or [line for line in said if line] or ['nothing'])[0]}"

@@ -9,9 +9,9 @@ usage: tests/edits.py NAME..            at the top of the repository: tries both
        tests/run.py other-edits         tries those that the gate does not try, of the crates that differ from their lines in edits/tried.txt
 
 An edit counts as refused only if a contract refuses it. One that the prover refuses for a name or a form says nothing of a contract and counts as bad: a proof
-file names what the edit took away, a function has no proof for its form, or the text cannot be read. Edits of different functions are tried together
-(tests/at_once.py). Prints a line for each edit and one for each crate; the status is 1 if one edit is bad or not refused. Trying takes a check of the crate,
-unless the crate was checked here before, and 5 to 15 seconds for each edit.
+file names what the edit took away, a function has no proof for its form, the text cannot be read, or the prover stopped at a limit. Edits of different
+functions are tried together (tests/at_once.py). Prints a line for each edit and one for each crate; the status is 1 if one edit is bad or not refused. Trying
+takes a check of the crate, unless the crate was checked on this machine before, and 5 to 15 seconds for each edit.
 """
 import argparse
 import glob
@@ -116,8 +116,8 @@ def try_edits(crate, kinds):
             print(f"{crate} is not proved as it stands; the last lines:", *said[-5:], sep="\n")
             return False
         bad = 0
-        for round in copy.rounds(edits):
-            for edit, why in copy.verdicts(round):
+        for together in copy.rounds(edits):
+            for edit, why in copy.verdicts(together):
                 bad += why is not None
                 print(f"{os.path.relpath(edit, TOP)}: {why or 'refused by a contract'}", flush=True)
     print(f"{crate}: {len(edits)} edits, {len(edits) - bad} refused by a contract, {bad} not", flush=True)
