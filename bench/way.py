@@ -191,7 +191,7 @@ CUTS = {
     'a short log': '''recovery/log_text.rt:read_parts wal/stretch.rt:stretches_of wal/joining.rt:join_stretches
         wal/log.rt:read_log_behind''',
     'a long log': 'recovery/devices.rt:read_source wal/log.rt:read_log_by',
-    'one worker': '''recovery/unthreaded.rt restart/unthreaded.rt redo/unthreaded.rt:redo_alone recovery/log_text.rt:read_parts
+    'one worker': '''recovery/unthreaded.rt restart/unthreaded.rt recovery/log_text.rt:read_parts
         recovery/decoding.rt:beside_each_other wal/log.rt:read_log_behind restart/forward.rt:side_by_side
         redo/rounds.rt:redo_in_rounds wal/stretch.rt:stretches_of wal/joining.rt:join_stretches''',
     'no threads': 'wal/log.rt:read_log_by board/board.rt board/stop.rt redo/gate.rt',

@@ -1,8 +1,8 @@
 //! The base: the tables of the checkpoint that the master names.
 
-ghost use Rattle.std.specs.Prelude.{◌≡◌, ℕ, Option, Some, None, option_map, IfOk, OnOk, IfErr, IfSome, [], length, drop, ◌<◌, ◌+◌, IsOkUnless};
+ghost use Rattle.std.specs.Prelude.{◌≡◌, ℕ, Some, None, IfOk, OnOk, IfErr, length, drop, ◌<◌, ◌+◌, IsOkUnless};
 ghost use Rattle.page.specs.declared.fault.Fault.TheVariants.{NoResource};
-ghost use Rattle.log_laws.specs.Records.{history, record_at};
+ghost use Rattle.log_laws.specs.Records.{history};
 ghost use Rattle.log_laws.specs.Redo.{rec_lsn_of};
 ghost use Rattle.analysis.specs.Tables.{entry_at, IsBase, BaseFault};
 ghost use Rattle.log_laws.specs.Undo.{entry_for};

@@ -1,12 +1,11 @@
 //! The scan: what each record does to the tables.
 
-ghost use Rattle.std.specs.Prelude.{◌≡◌, ℕ, IfOk, IfErr, OnOk, nat_eq, if◌then◌else◌, ◌==◌, Some, None, Option, true, false, slice_index_or, slice_set, IsOkUnless};
+ghost use Rattle.std.specs.Prelude.{◌≡◌, ℕ, IfErr, OnOk, if◌then◌else◌, ◌==◌, Some, None, Option, true, false, slice_index_or, slice_set, IsOkUnless};
 ghost use Rattle.page.specs.declared.fault.Fault.TheVariants.{NoResource};
-ghost use Rattle.log_laws.specs.Records.{LogRecord, TableEntry, history};
+ghost use Rattle.log_laws.specs.Records.{LogRecord};
 ghost use Rattle.wal.specs.Glances.{glance_of};
 ghost use Rattle.log_laws.specs.Redo.{rec_lsn_of};
 ghost use Rattle.log_laws.specs.Checkpoint.{or_else};
-ghost use Rattle.analysis.specs.Tables.{entry_at, analysed_entry, analysed_rec_lsn};
 ghost use Rattle.analysis.specs.Steps.{prepared_from, entry_seen, rec_lsn_after, AreListed, held_entry, AreKept, HasNoneAbove};
 
 use crate::kept::{PLACES, entry_in, finish, keep};

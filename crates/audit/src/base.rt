@@ -1,7 +1,6 @@
 //! The base pages of a log: what pages held before its first record.
 
 ghost use Rattle.std.specs.Prelude.{◌≡◌, IsTrue, ◌↔◌, ◌≤◌, All};
-ghost use Rattle.log_laws.specs.Records.{history, base_lsn};
 ghost use Rattle.log_laws.specs.Pages.{base_pages};
 ghost use Rattle.audit.specs.Base.{IsBaseOf};
 

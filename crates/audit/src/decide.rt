@@ -1,7 +1,6 @@
 //! Whether a record keeps a law: one function for each law, and it is exact.
 
 ghost use Rattle.std.specs.Prelude.{◌≡◌, ◌+◌, ◌*◌, ◌≤◌, ◌<◌, ◌↔◌, ℕ, List, All, IsTrue, Some, length, option_map, slice_index_or};
-ghost use Rattle.page.specs.Image.{Image};
 ghost use Rattle.log_laws.specs.Records.{LogRecord, History, history, last_lsn, record_at, base_lsn};
 ghost use Rattle.log_laws.specs.Meaning.{BasePages};
 ghost use Rattle.log_laws.specs.Laws.{IsLawful, ChainLaw, FinishLaw, CompensationLaw, BeforeLaw, Strictness};

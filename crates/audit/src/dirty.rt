@@ -1,11 +1,10 @@
 //! The dirty page table of a checkpoint, against the log and the pages.
 
-ghost use Rattle.std.specs.Prelude.{◌≡◌, ◌+◌, ◌≤◌, ◌<◌, ◌↔◌, ℕ, All, IsTrue, Option, Some, ◌==◌, if◌then◌else◌, length, slice_index_or, take, IfOk, OnOk, IfErr, IfSome, IsOkUnless};
+ghost use Rattle.std.specs.Prelude.{◌≡◌, ◌+◌, ◌≤◌, ◌<◌, ◌↔◌, ℕ, All, IsTrue, Option, Some, ◌==◌, if◌then◌else◌, length, slice_index_or, IfOk, OnOk, IfErr, IfSome, IsOkUnless};
 ghost use Rattle.page.specs.Store.{AreNumbered};
 ghost use Rattle.page.specs.declared.fault.Fault.TheVariants.{NoResource};
 ghost use Rattle.log_laws.specs.Records.{history, first, last_lsn, EachRecord, base_lsn};
 ghost use Rattle.log_laws.specs.Redo.{rec_lsn_of};
-ghost use Rattle.log_laws.specs.Checkpoint.{DirtyLaw};
 ghost use Rattle.log_laws.specs.Store.{NamesPages};
 ghost use Rattle.audit.specs.Pages.{page_lsn};
 ghost use Rattle.audit.specs.Dirty.{KeepsMissing, missing_after, IsRecLsnInRange, IsCovered};

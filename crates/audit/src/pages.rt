@@ -3,7 +3,7 @@
 ghost use Rattle.std.specs.Prelude.{◌≡◌, ◌+◌, ◌*◌, ◌≤◌, ◌<◌, ◌⊎◌, ◌↔◌, ℕ, All, IsTrue, Some, None, true, length, IfOk, OnOk, IfErr, IfSome, slice_index, slice_index_or, IsOkUnless};
 ghost use Rattle.page.specs.Store.{AreNumbered};
 ghost use Rattle.page.specs.declared.fault.Fault.TheVariants.{NoResource};
-ghost use Rattle.log_laws.specs.Records.{LogRecord, history, first, record_at, EachRecord};
+ghost use Rattle.log_laws.specs.Records.{LogRecord, history, record_at, EachRecord};
 ghost use Rattle.log_laws.specs.Meaning.{is_on};
 ghost use Rattle.log_laws.specs.Pages.{PageLaw, base_pages};
 ghost use Rattle.log_laws.specs.Store.{NamesPages};

@@ -1,12 +1,12 @@
 //! The transactions that have not finished. No choice of their numbers makes a search long: each is
 //! at the place of its number, where it is found without a search, or in an ordered map.
 
-ghost use Rattle.std.specs.Prelude.{◌≡◌, ◌==◌, ◌%◌, ◌↔◌, ℕ, IsTrue, Some, None, OnOk, IfErr, IsOkUnless, if◌then◌else◌, is_some, slice_index_or, length, IsSome};
+ghost use Rattle.std.specs.Prelude.{◌≡◌, ◌==◌, ◌%◌, ◌↔◌, ℕ, Some, None, OnOk, IsOkUnless, if◌then◌else◌, is_some};
 ghost use Rattle.std.specs.Ordering.{nat_cmp};
 ghost use Rattle.std.specs.BTreeMap.{get};
 ghost use Rattle.page.specs.declared.fault.Fault.TheVariants.{NoResource};
 ghost use Rattle.audit.specs.declared.status.Status.{Status};
-ghost use Rattle.audit.specs.Unfinished.{unfinished_in, own_or, is_of_another};
+ghost use Rattle.audit.specs.Unfinished.{unfinished_in, is_of_another};
 
 use crate::status::Status;
 use page::Fault;

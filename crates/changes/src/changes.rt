@@ -1,6 +1,6 @@
 //! The changes to the pages of a store.
 
-ghost use Rattle.std.specs.Prelude.{◌≡◌, ◌<◌, ℕ, true, false, IfOk, IsOkUnless, OnOk, OnErr, length, map, slice_index_or, slice_set};
+ghost use Rattle.std.specs.Prelude.{◌≡◌, ◌<◌, true, false, IfOk, IsOkUnless, OnOk, OnErr, length, map, slice_index_or, slice_set};
 ghost use Rattle.page.specs.declared.fault.Fault.TheVariants.{NoResource};
 ghost use Rattle.page.specs.declared.profile.TheConstants.{SLOTS};
 ghost use Rattle.changes.specs.Changes.{PageChange, unchanged, put_in, lsn_in, changed, PutsSome};

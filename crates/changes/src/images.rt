@@ -1,6 +1,6 @@
 //! The images of a store's pages, changed where they are.
 
-ghost use Rattle.std.specs.Prelude.{◌≡◌, ◌≢◌, ◌+◌, ◌/◌, ◌%◌, ◌<◌, ◌≤◌, List, IsOk, IfErr, OnOk, OnErr, length, drop, slice_index_or};
+ghost use Rattle.std.specs.Prelude.{◌≡◌, ◌≢◌, ◌+◌, ◌/◌, ◌%◌, ◌<◌, ◌≤◌, List, IsOk, IfErr, OnOk, length, drop, slice_index_or};
 ghost use Rattle.page.specs.declared.fault.Fault.TheVariants.{BadPage};
 ghost use Rattle.page.specs.declared.page.Page.{Page};
 ghost use Rattle.page.specs.declared.profile.TheConstants.{PAGES, PAGE_BYTES};

@@ -1,6 +1,6 @@
 //! Devices over memory. Contracts know their bytes.
 
-ghost use Rattle.std.specs.Prelude.{◌≡◌, ℕ, Some, [], length};
+ghost use Rattle.std.specs.Prelude.{◌≡◌, Some, [], length};
 ghost use Rattle.device.specs.Memory.{bytes_left, bytes_held, bytes_taken, bytes_flushed, failures_met};
 
 use crate::again::bytes_from;

@@ -1,6 +1,6 @@
 //! Which records are asked for.
 
-ghost use Rattle.std.specs.Prelude.{◌≡◌, option_map};
+ghost use Rattle.std.specs.Prelude.{◌≡◌};
 ghost use Rattle.wal.specs.Content.{shown};
 ghost use Rattle.dump.specs.Choice.{meets, is_asked_for};
 

@@ -1,13 +1,12 @@
 //! The lines of a log.
 
-ghost use Rattle.std.specs.Prelude.{◌≡◌, ◌+◌, ◌<◌, ◌≤◌, ◌^◌, ℕ, ◌++◌, OnOk, IfOk, IfErr, Some, length};
+ghost use Rattle.std.specs.Prelude.{◌≡◌, ◌+◌, ◌<◌, ◌≤◌, ◌^◌, ℕ, ◌++◌, OnOk, IfOk, IfErr, Some};
 ghost use Rattle.std.specs.Io.KnownBytes.{Appends, Keeps};
 ghost use Rattle.page.specs.declared.fault.Fault.{Fault};
-ghost use Rattle.page.specs.declared.fault.Fault.TheVariants.{NoResource};
 ghost use Rattle.wal.specs.Content.{shown};
 ghost use Rattle.wal.specs.Headers.{header_bytes};
 ghost use Rattle.wal.specs.Reads.{Reads, Cause};
-ghost use Rattle.log_laws.specs.Records.{LogContent, history, first};
+ghost use Rattle.log_laws.specs.Records.{history, first};
 ghost use Rattle.wal.specs.Spelling.{Fits};
 ghost use Rattle.dump.specs.LogLines.{log_line, place_behind, line_if_asked, record_lines, torn_line, log_lines, ListsLog, ListsFront, ListsToFault, PrintsBeginning, PrintsFirstLines, IfMemory, fault_at, IsNoFault};
 

@@ -1,7 +1,6 @@
 //! The lines of a store.
 
 ghost use Rattle.std.specs.Prelude.{ℕ, List, length, take, ◌+◌, ◌≤◌, ◌*◌, ◌/◌, ◌≡◌, ◌<◌, ◌++◌, ◌^◌, OnOk, IfErr};
-ghost use Rattle.std.specs.List.{flat_map};
 ghost use Rattle.std.specs.Io.KnownBytes.{Appends, Keeps};
 ghost use Rattle.page.specs.declared.profile.TheConstants.{PAGES, PAGE_BYTES};
 ghost use Rattle.dump.specs.StoreLines.{store_line, store_lines, slot_name, slot_field, slot_fields, page_line, page_if_asked, ListsStore, IsLineOf, AreLinesOf, BeginsStore, BeginsPages, PrintsRest, PrintsFirstPages, ListsStoreToFault};

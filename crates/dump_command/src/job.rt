@@ -1,8 +1,8 @@
 //! The command line of `aries_dump`.
 
-ghost use Rattle.std.specs.Prelude.{◌≡◌, ◌^◌, ◌<◌, Some, IfErr, IfOk, codes, is_some, map, option_map};
+ghost use Rattle.std.specs.Prelude.{◌≡◌, ◌^◌, ◌<◌, Some, IfErr, IfOk, codes, is_some, map};
 ghost use Rattle.std.specs.Prelude.{OnOk, string_bytes, true, false};
-ghost use Rattle.clap.specs.Words.{app_of, first_of, found_of, kind_of, one_of, rows_of, rule_of, shape_of};
+ghost use Rattle.clap.specs.Words.{app_of, first_of, found_of, rows_of, rule_of, shape_of};
 ghost use Rattle.dump_command.specs.Job.{AsksFor, GivesNumbers, HasFile, HasNumbers, IsFaultless, NamesFile};
 ghost use Rattle.dump_command.specs.Job.{IsGiven};
 ghost use Rattle.dump_command.specs.Line.{dump_line, log_line, store_line, path_rule, lsn_rule, number_rule};

@@ -1,6 +1,6 @@
 //! Images without the zeros at their ends.
 
-ghost use Rattle.std.specs.Prelude.{◌≡◌, ◌+◌, ◌≤◌, ◌<◌, ◌++◌, [], All, take, drop, length, vec_len, OnOk, OnErr};
+ghost use Rattle.std.specs.Prelude.{◌≡◌, ◌+◌, ◌≤◌, ◌<◌, ◌++◌, [], All, take, drop, length, OnOk, OnErr};
 ghost use Rattle.page.specs.declared.profile.TheConstants.{PAGE_BYTES};
 ghost use Rattle.held_store.specs.Block.{IsWithin, padded};
 

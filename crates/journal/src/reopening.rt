@@ -1,22 +1,20 @@
 //! How a journal is opened over a log that has records, and a store whose pages have all that the
 //! log made of them, as a recovery leaves both.
 
-ghost use Rattle.std.specs.Prelude.{◌≡◌, ◌≢◌, ◌+◌, ◌-◌, ◌≤◌, ◌<◌, ◌⊎◌, ℕ, false, Some, List, All, take, drop, length, map, option_map, IfSome, IfOk, OnOk, IfErr, OnErr, IsOkUnless, slice_index_or};
+ghost use Rattle.std.specs.Prelude.{◌≡◌, ◌≢◌, ◌+◌, ◌-◌, ◌≤◌, ◌<◌, ◌⊎◌, Some, All, take, drop, length, map, IfOk, OnOk, IfErr, OnErr, IsOkUnless};
 ghost use Rattle.std.specs.List.{insert};
-ghost use Rattle.log_laws.specs.Records.{LogRecord, Update, Compensation, Abort, Prepare, Commit, End, UpdateRecord, CompensationRecord, PlainRecord, History, ◌▸◌, history, last_lsn};
-ghost use Rattle.log_laws.specs.Meaning.{BasePages, owner, change_of, finished};
-ghost use Rattle.log_laws.specs.Laws.{Obeys};
+ghost use Rattle.log_laws.specs.Records.{Update, Compensation, Abort, Prepare, Commit, End, ◌▸◌, history, last_lsn};
+ghost use Rattle.log_laws.specs.Meaning.{owner};
 ghost use Rattle.wal.specs.Spelling.{Fits};
 ghost use Rattle.wal.specs.Content.{shown};
 ghost use Rattle.page.specs.declared.profile.TheConstants.{TRANSACTIONS};
 ghost use Rattle.journal.specs.declared.refusal.Refusal.TheVariants.{NoNumber, TooManyTransactions};
 ghost use Rattle.journal.specs.declared.entries.TransactionEntry.{TransactionEntry};
-ghost use Rattle.journal.specs.Runs.{opened, MayOpen};
 ghost use Rattle.journal.specs.Transactions.{next_after};
-ghost use Rattle.journal.specs.PageStates.{PageState, writers_after, clean, IsUpToDate, IsCurrentSoFar, IsOneBehind};
-ghost use Rattle.journal.specs.Opened.{HasPageBehind, OpenRefused, largest_number};
+ghost use Rattle.journal.specs.PageStates.{clean, IsUpToDate, IsCurrentSoFar, IsOneBehind};
+ghost use Rattle.journal.specs.Opened.{HasPageBehind, largest_number};
 ghost use Rattle.journal.specs.Arrays.{page_state_of, unless_0, IsTable};
-ghost use Rattle.journal.specs.Scan.{IsScan, fresh, IsNoteRefusal, Enters, IsStranger, Leaves, NotesUpdate, RefusesUpdateNote, NotesUndo, RefusesUndoNote, Notes, RefusesStateNote, NotesRecord, RefusesNote, NotesWriter, AreCleaned};
+ghost use Rattle.journal.specs.Scan.{fresh, IsNoteRefusal, Enters, IsStranger, Leaves, NotesUpdate, RefusesUpdateNote, NotesUndo, RefusesUndoNote, Notes, RefusesStateNote, NotesRecord, RefusesNote, NotesWriter, AreCleaned};
 ghost use Rattle.journal.specs.Outcomes.{ContinuesIn, RefusesOpen};
 
 use crate::entries::{Head, PageEntry, PendingEntry, TransactionEntry};

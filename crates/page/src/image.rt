@@ -1,7 +1,7 @@
 //! The image of a page: [`PAGE_BYTES`] bytes.
 
 ghost use Rattle.std.specs.Prelude.{◌≡◌, ◌≢◌, ◌<◌, ◌≤◌, ◌^◌, ◌↔◌, ◌++◌, ℕ, List, All, IsTrue, IfSome, IfOk, IfErr, length, take, replicate};
-ghost use Rattle.std.specs.Int.{w16, w32, w64, to_be_bytes};
+ghost use Rattle.std.specs.Int.{w16, to_be_bytes};
 ghost use Rattle.page.specs.declared.page.Page.{Page};
 ghost use Rattle.page.specs.Image.{Image, entry, directory, header, body, page_text, FitsSlot, FitsPage, SpellsPage};
 ghost use Rattle.page.specs.declared.profile.TheConstants.{SLOTS, PAGE_BYTES};

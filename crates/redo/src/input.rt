@@ -1,7 +1,7 @@
 //! What redo looks at: a log, a store and the tables of analysis. The rounds of workers look at a
 //! partition too.
 
-ghost use Rattle.std.specs.Prelude.{◌≡◌, length};
+ghost use Rattle.std.specs.Prelude.{◌≡◌};
 ghost use Rattle.log_laws.specs.Records.{history, base_lsn, last_lsn};
 ghost use Rattle.redo.specs.Routes.{skipped, skipped_in};
 

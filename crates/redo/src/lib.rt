@@ -1,8 +1,8 @@
 //! Redo, the second pass of a restart: it repeats history on the pages of a store. It notes for
 //! each slot the last record that a page lacks, and only then puts the images of these records in.
 //!
-//! Entry points: [`redo`] with workers, [`redo_alone`] without threads, and [`TallyScan`] for a log
-//! that is read in pieces. A [`Gate`] is a hook that is called for each part.
+//! Entry points: [`redo`] with workers, [`redo_watched`] without threads, and [`TallyScan`] for a
+//! log that is read in pieces. A [`Gate`] is a hook that is called for each part.
 //!
 //! The promise: each page gets the records that ARIES applies, in order, for every number of
 //! workers, partition and gate.
@@ -57,6 +57,6 @@ pub use parting::{PARTS, Parting};
 pub use redone::Redone;
 pub use rounds::{WORKERS, are_workers, redo, redo_in_place};
 pub use tally_scan::TallyScan;
-pub use unthreaded::{redo_alone, redo_watched};
+pub use unthreaded::redo_watched;
 pub use wanted::Wanted;
 pub use watch::Watch;

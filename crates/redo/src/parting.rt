@@ -1,9 +1,8 @@
 //! How the pages are divided into parts.
 
-ghost use Rattle.std.specs.Prelude.{◌≡◌, ℕ, ◌+◌, ◌%◌, ◌<◌, ◌≤◌, List, [], ◌∷◌, All, length, vec_len, slice_index, IfOk, IfErr, IfSome, OnOk, Some, IsTrue, ◌↔◌, IsOkUnless};
-ghost use Rattle.std.specs.List.{slice_get, range_with_len};
+ghost use Rattle.std.specs.Prelude.{◌≡◌, ◌+◌, ◌%◌, ◌<◌, ◌≤◌, ◌∷◌, All, length, IfOk, IfErr, IfSome, OnOk, Some, IsTrue, ◌↔◌, IsOkUnless};
+ghost use Rattle.std.specs.List.{slice_get};
 ghost use Rattle.page.specs.declared.fault.Fault.TheVariants.{NoResource};
-ghost use Rattle.redo.specs.Lists.{list_at};
 ghost use Rattle.redo.specs.Parting.{ArePages, AreParts, IsDealt, PartingFault, AreMembers, AreLists, by_number, NumberFault};
 ghost use Rattle.page.specs.declared.profile.TheConstants.{PAGES};
 

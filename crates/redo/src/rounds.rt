@@ -92,8 +92,8 @@ fn redo_in_rounds<G: Gate, R: Threads + Sync>(
 }
 
 /// [`redo`] of a store that is given away: its pages are changed in place and not copied. After an
-/// error they are gone. One worker does what [`redo_alone`](crate::redo_alone) does, and also draws
-/// the parts.
+/// error they are gone. One worker does what [`redo_watched`](crate::redo_watched) does, and also
+/// draws the parts.
 pub fn redo_in_place<G: Gate, R: Threads + Sync>(
     rt: &R,
     alloc: Global,

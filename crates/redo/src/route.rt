@@ -1,12 +1,12 @@
 //! The first round: which records each part is to look at.
 
-ghost use Rattle.std.specs.Prelude.{◌≡◌, ℕ, ◌+◌, ◌<◌, ◌≤◌, [], ◌∷◌, ◌++◌, All, Some, length, map, vec_len, slice_set, OnOk, IfOk, IfErr, MatchResult, if◌then◌else◌, IsOkUnless};
+ghost use Rattle.std.specs.Prelude.{◌≡◌, ℕ, ◌+◌, ◌<◌, ◌≤◌, [], ◌∷◌, ◌++◌, All, Some, length, map, vec_len, slice_set, OnOk, IfOk, IfErr, if◌then◌else◌, IsOkUnless};
 ghost use Rattle.page.specs.declared.fault.Fault.TheVariants.{NoResource};
 ghost use Rattle.log_laws.specs.Records.{LogRecord, History, record_at, last_lsn, history, base_lsn};
 ghost use Rattle.wal.specs.Glances.{glance_of};
 ghost use Rattle.redo.specs.Notes.{notes_at};
 ghost use Rattle.redo.specs.Changes.{NamesBelow, on_part, lsn_in, IsNote};
-ghost use Rattle.redo.specs.Routes.{IsRoute, AreRoutes, ExistWithin, RouteFault, IsSeen, NoteFault, IfRoute, IfEach, RoundFault, boundary_in};
+ghost use Rattle.redo.specs.Routes.{IsRoute, AreRoutes, RouteFault, IsSeen, NoteFault, IfRoute, IfEach, RoundFault, boundary_in};
 ghost use Rattle.page.specs.declared.profile.TheConstants.{PAGES, SLOTS};
 
 use crate::Parting;

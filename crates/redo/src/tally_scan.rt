@@ -1,6 +1,6 @@
 //! The tallies of all pages while a log is read, piece after piece.
 
-ghost use Rattle.std.specs.Prelude.{◌≡◌, ℕ, ◌-◌, ◌≤◌, ◌<◌, ◌↔◌, List, All, Contains, length, slice_index_or, min, IfOk, OnOk, IfErr, OnErr, IsOkUnless};
+ghost use Rattle.std.specs.Prelude.{◌≡◌, ◌-◌, ◌≤◌, ◌<◌, ◌↔◌, List, All, Contains, length, min, IfOk, OnOk, IfErr, OnErr, IsOkUnless};
 ghost use Rattle.std.specs.List.{sum_by};
 ghost use Rattle.std.specs.List.Sorted.{IsNonDecreasingBy};
 ghost use Rattle.page.specs.declared.fault.Fault.TheVariants.{NoResource};
@@ -15,7 +15,6 @@ ghost use Rattle.redo.specs.Redone.{AllExist};
 ghost use Rattle.redo.specs.Routes.{IsSeen, NoteFault};
 ghost use Rattle.redo.specs.Passing.{ListEach, IsPieceFor, IsRecordFor, PieceFault};
 ghost use Rattle.redo.specs.Wanted.{IsWanted, HoldAllBut, ShowAllBut, ShowFinished};
-ghost use Rattle.redo.specs.declared.tally.Tally.{Tally};
 ghost use Rattle.redo.specs.declared.wanted.Wanted.{Wanted};
 ghost use Rattle.redo.specs.Changes.{NamesBelow};
 ghost use Rattle.page.specs.declared.profile.TheConstants.{SLOTS};

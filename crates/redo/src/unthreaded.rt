@@ -5,7 +5,7 @@ ghost use Rattle.redo.specs.Redone.{RepeatsHistory, RedoFault};
 
 use crate::Redone;
 use crate::finish::{finish_alone, total};
-use crate::gate::{Gate, OpenGate};
+use crate::gate::Gate;
 use crate::one_pass::tallied_alone;
 use crate::watch::{Watch, tell};
 use page::{Fault, Store};
@@ -41,15 +41,4 @@ pub fn redo_watched<G: Gate>(
     let mut pages = store.pages;
     finish_alone(log, &tallies, &mut pages);
     Ok(Redone { pages, applied })
-}
-
-/// [`redo_watched`] without a gate.
-pub fn redo_alone(alloc: Global, log: &Log, store: Store, tables: &Tables) -> Result<Redone, Fault>
-    ensures redone { IfOk result (RepeatsHistory log.now tables.now store.pages) }
-
-    // On an error, its condition holds for the input, memory aside.
-    ensures fault { IfErr result (RedoFault log.now (length store.pages) tables.now.redo_lsn 1) }
-{
-    let nobody: Watch<OpenGate> = Watch::Nobody;
-    redo_watched(alloc, log, store, tables, &nobody)
 }

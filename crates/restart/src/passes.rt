@@ -15,7 +15,7 @@ use crate::doubt::in_doubt;
 use crate::forward::go_forward;
 use crate::outcome::{BriefOutcome, Outcome, UndoOutcome, outcome_of};
 use changes::Pages;
-use page::{Fault, Page, Store};
+use page::{Fault, Store};
 use redo::{Gate, Parting, Redone, are_workers};
 use std::alloc::Global;
 use std::thread::Threads;

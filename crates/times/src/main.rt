@@ -14,7 +14,6 @@ mod store;
 mod updates;
 
 use anyhow::{Context, Error, Result};
-use std::alloc::Global;
 use std::rt::Env;
 use words::{slices_of, words_of};
 

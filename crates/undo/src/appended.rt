@@ -3,7 +3,7 @@
 ghost use Rattle.std.specs.Prelude.{◌≡◌, ℕ, length, map, IfOk, IsOkUnless};
 ghost use Rattle.page.specs.declared.fault.Fault.TheVariants.{NoResource};
 ghost use Rattle.log_laws.specs.Records.{history};
-ghost use Rattle.wal.specs.Content.{content, shown};
+ghost use Rattle.wal.specs.Content.{content};
 ghost use Rattle.wal.specs.Spelling.{Fits, frame};
 ghost use Rattle.undo.specs.Appended.{HasUpdate, HaveUpdates, record_of, full_records};
 

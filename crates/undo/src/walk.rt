@@ -1,6 +1,6 @@
 //! The walk of a transaction through the log, by which the transaction is undone.
 
-ghost use Rattle.std.specs.Prelude.{◌≡◌, ◌≤◌, ◌<◌, ◌+◌, length, IfOk, IfErr};
+ghost use Rattle.std.specs.Prelude.{◌≡◌, ◌≤◌, ◌<◌, ◌+◌, IfOk, IfErr};
 ghost use Rattle.log_laws.specs.Records.{history, record_at, last_lsn};
 ghost use Rattle.undo.specs.Rollback.{hop_of, walk_from, FirstMet, WalkFault};
 

@@ -2,13 +2,11 @@
 
 ghost use Rattle.std.specs.Prelude.{◌≡◌, ◌++◌, ◌∷◌, [], ◌<◌, true, OnOk, OnErr, length, is_some, option_map, IsOkUnless};
 ghost use Rattle.page.specs.declared.fault.Fault.TheVariants.{NoResource};
-ghost use Rattle.std.specs.Int.{w32, w64, to_be_bytes};
-ghost use Rattle.log_laws.specs.Records.{CompensationRecord, PlainRecord, UpdateRecord};
+ghost use Rattle.std.specs.Int.{to_be_bytes};
 ghost use Rattle.wal.specs.Reading.{update_at, compensation_at, transactions_at, dirties_at, checkpoint_at, fields_at, body_at};
-ghost use Rattle.wal.specs.Spelling.{image, plain, update, compensation, body, frame, checkpoint, table, entry, dirty_page, kind_of, fields, Fits, FitsCheckpoint, FitsTable};
+ghost use Rattle.wal.specs.Spelling.{image, frame, kind_of, fields, Fits};
 ghost use Rattle.wal.specs.Head.{head_text};
 ghost use Rattle.wal.specs.Content.{content, Keeps, shown};
-ghost use Rattle.page.specs.Image.{FitsSlot};
 
 use crate::field::{
     image_at, plain_at, put_dirties, put_entries, put_image, slot_at, u32_at, u64_at,

@@ -1,8 +1,7 @@
 //! Stretches of a log, which several threads read at once: each guesses where a frame begins.
 
-ghost use Rattle.std.specs.Prelude.{◌≡◌, ◌≤◌, ◌<◌, ◌+◌, ◌^◌, ℕ, List, All, Ok, Some, drop, length, IfOk, IfSome, IfNone, IsOkUnless};
+ghost use Rattle.std.specs.Prelude.{◌≡◌, ◌≤◌, ◌<◌, ◌+◌, ◌^◌, ℕ, List, All, Ok, Some, length, IfOk, IfSome, IsOkUnless};
 ghost use Rattle.page.specs.declared.fault.Fault.TheVariants.{NoResource};
-ghost use Rattle.log_laws.specs.Records.{LogRecord};
 ghost use Rattle.wal.specs.Frames.{next_at};
 ghost use Rattle.wal.specs.Stretches.{IsStretch, IfStretch, LeavesRoom, HasNoFrame};
 
