@@ -65,7 +65,8 @@ impl Image {
     /// An image in a record that is borrowed from the bytes of the log. It has at most 48 bytes.
     pub fn lent(image: Option<&[u8]>) -> Image
         requires { IfSome image (λ bytes. length bytes.now ≤ VALUE_BYTES) }
-        ensures { image_of result ≡ option_map (λ bytes. bytes.now) image.entry }
+        ensures image { image_of result ≡ option_map (λ bytes. bytes.now) image.entry }
+        ensures valid { IsValid result }
     {
         match image {
             None => Image::absent(),
