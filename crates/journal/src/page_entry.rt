@@ -1,9 +1,9 @@
 //! What a journal keeps of a page.
 
-ghost use Rattle.std.specs.Prelude.{◌≡◌, ◌<◌, ◌≤◌, ◌↔◌, IsTrue, None, length, slice_index_or};
+ghost use Rattle.std.specs.Prelude.{◌≡◌, ◌<◌, ◌≤◌, ◌↔◌, All, IsTrue, None, length, slice_index_or};
 ghost use Rattle.page.specs.declared.profile.TheConstants.{SLOTS};
 ghost use Rattle.journal.specs.declared.entries.PageEntry.{PageEntry};
-ghost use Rattle.journal.specs.Arrays.{page_of, page_state_of, unless_0};
+ghost use Rattle.journal.specs.Arrays.{page_of, page_state_of, unless_0, IsValid};
 ghost use Rattle.journal.specs.PageStates.{written, noted_change, IsCurrentSoFar};
 ghost use Rattle.journal.specs.Steps.{HoldsImage, IsChanged, ChangesCell};
 
@@ -25,7 +25,8 @@ fn know_values(slots: &[Option<Value>; SLOTS])
 impl PageImage {
     /// This page as plain data.
     pub fn of(page: &Page) -> PageImage
-        ensures { page_of result ≡ page.now }
+        ensures page { page_of result ≡ page.now }
+        ensures valid { All IsValid result.slots }
     {
         know_values(&page.slots);
         let mut slots = [Image::absent(); SLOTS];

@@ -17,7 +17,7 @@ returns-in-Update-clause-ok c =
     on_ok_at c.note_logged_update.result
     (λ r n base log next at obeys h.
     let keeps : IsKeptOf (record { lsn = c.args.lsn; prev = u.prev; tx = u.tx; page = u.page; slot = u.slot; before = c.lent.result }) (last_lsn log + 1) u =
-    record { lsn_is = sym at; prev = refl; tx = refl; page = refl; slot = refl; before = c.lent.image } in
+    record { lsn_is = sym at; prev = refl; tx = refl; page = refl; slot = refl; before = c.lent.ensures.image } in
     subst (λ x. IsScan (log ▸ x) (next_after next x) c.note_logged_update.new.transactions r.0 c.note_logged_update.new.pending r.1) (sym is)
     (n base log next u keeps (subst (Obeys base log) is obeys) (subst Fits is c.requires.fits) c.requires.held h))
     c.note_logged_update.ensures.ok
@@ -78,7 +78,7 @@ returns-in-Update-clause-err c =
     on_err_at c.note_logged_update.result
     (λ e n base log next at obeys h.
     let keeps : IsKeptOf (record { lsn = c.args.lsn; prev = u.prev; tx = u.tx; page = u.page; slot = u.slot; before = c.lent.result }) (last_lsn log + 1) u =
-    record { lsn_is = sym at; prev = refl; tx = refl; page = refl; slot = refl; before = c.lent.image } in
+    record { lsn_is = sym at; prev = refl; tx = refl; page = refl; slot = refl; before = c.lent.ensures.image } in
     subst (λ x. NoteRefused (log ▸ x) (length c.args.transactions.now) (length c.args.pending.now) e) (sym is)
     (n base log next u keeps (subst (Obeys base log) is obeys) (subst Fits is c.requires.fits) c.requires.held h))
     c.note_logged_update.ensures.err
