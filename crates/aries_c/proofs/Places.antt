@@ -1,28 +1,7 @@
--- Two lists that agree place by place, one of which is filled one place after the other.
+-- Buffers that are filled place after place, and entries that are named one after the other.
 use Rattle.std.proofs.Common.{ℕ, zero, suc, ◌≡◌, ◌≢◌, refl, ap₂, ◌+◌, ◌<◌, List, [], ◌∷◌, ◌++◌, length, get_or, set, map, take, drop, sym, ap, ◌∙◌, subst, arith, inl, inr}
 use Rattle.std.proofs.lemmas.Bool.{cases_eq}
-use Rattle.std.proofs.lemmas.List.{get_or_default, get_or-set_same, get_or-set_other, get_or-map, length-map, map-append, take_all, take_more}
-
-module _ {X Y : Type 0} (R : X → Y → Type 0) where
-  -- at the places below i
-  abbrev pub AgreeBelow : List X → List Y → ℕ → Type 0
-  AgreeBelow xs ys i = (k : ℕ) (x : X) (y : Y) → k < i → R (get_or xs k x) (get_or ys k y)
-
-  pub first_filled : (xs : List X) (ys : List Y) (i : ℕ) (v : X) (w : Y) → i < length xs → i < length ys → AgreeBelow xs ys i → R v (get_or ys i w) → AgreeBelow (set xs i v) ys (i + 1)
-  first_filled xs ys i v w in_xs in_ys below here = λ k x y lt.
-      elim (cases_eq k i) [
-        | inl e ↦ subst (λ n. R (get_or (set xs i v) n x) (get_or ys n y)) (sym e)
-            (subst (λ (a : X). R a (get_or ys i y)) (sym (get_or-set_same xs i v x in_xs)) (subst (λ (b : Y). R v b) (get_or_default ys i w y in_ys) here))
-        | inr d ↦ subst (λ (a : X). R a (get_or ys k y)) (sym (get_or-set_other xs i k v x d)) (below k x y (omega arith))
-      ]
-
-  pub second_filled : (xs : List X) (ys : List Y) (i : ℕ) (v : X) (w : Y) → i < length xs → i < length ys → AgreeBelow xs ys i → R (get_or xs i v) w → AgreeBelow xs (set ys i w) (i + 1)
-  second_filled xs ys i v w in_xs in_ys below here = λ k x y lt.
-      elim (cases_eq k i) [
-        | inl e ↦ subst (λ n. R (get_or xs n x) (get_or (set ys i w) n y)) (sym e)
-            (subst (λ (b : Y). R (get_or xs i x) b) (sym (get_or-set_same ys i w y in_ys)) (subst (λ (a : X). R a w) (get_or_default xs i v x in_xs) here))
-        | inr d ↦ subst (λ (b : Y). R (get_or xs k x) b) (sym (get_or-set_other ys i k w y d)) (below k x y (omega arith))
-      ]
+use Rattle.std.proofs.lemmas.List.{get_or-set_same, get_or-set_other, get_or-map, length-map, map-append, take_all, take_more}
 
 -- what holds for each place below i, and for what is put there
 pub holds_more : {X : Type 0} (P : ℕ → X → Type 0) (xs : List X) (i : ℕ) (v : X) → i < length xs → ((k : ℕ) (d : X) → k < i → P k (get_or xs k d)) → P i v

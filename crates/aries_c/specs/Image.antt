@@ -1,14 +1,13 @@
 -- Values as C reads and writes them (own).
-use Rattle.std.specs.Prelude.{◌≡◌, length, take, Some, None}
-use Rattle.page.specs.Image.{Image, FitsSlot}
-use Rattle.aries_c.specs.declared.image.Image.{Image as Told}
-use Rattle.wal.specs.declared.sizes.TheConstants.{ABSENT}
+use Rattle.std.specs.Prelude.{◌≡◌}
+use Rattle.page.specs.Image.{Image}
+use Rattle.journal.specs.declared.image.Image.{Image as Told}
+use Rattle.journal.specs.Arrays.{image_of, IsValid}
 
--- an absent value is `ABSENT` in place of a length; a present one is its length, and its bytes at the front
+-- a present value has its length, and its bytes at the front; an absent one has `ABSENT` in place of a length
 abbrev pub NamesImage : Told → Image → Type 0
-NamesImage told None = told.length ≡ ABSENT
-NamesImage told (Some value) = (told.length ≡ length value) × (take (length value) told.bytes ≡ value)
+NamesImage told image = IsValid told × (image_of told ≡ image)
 
--- C gives no value that fits a slot
+-- C gives no value
 abbrev pub NamesNoImage : Told → Type 0
-NamesNoImage told = (image : Image) → NamesImage told image → FitsSlot image → ⊥
+NamesNoImage told = (image : Image) → NamesImage told image → ⊥

@@ -1,22 +1,20 @@
 -- Pages as C reads and writes them, and what is written of a store (own).
-use Rattle.std.specs.Prelude.{◌≡◌, ◌≢◌, ℕ, ◌<◌, ◌≤◌, List, slice_index_or}
+use Rattle.std.specs.Prelude.{◌≡◌, ◌≢◌, ℕ, ◌<◌, ◌≤◌, List, All}
 use Rattle.page.specs.declared.page.Page.{Page}
-use Rattle.page.specs.declared.profile.TheConstants.{PAGES, SLOTS}
-use Rattle.page.specs.Image.{Image, FitsPage, SpellsPage, page_text}
+use Rattle.page.specs.declared.profile.TheConstants.{PAGES}
+use Rattle.page.specs.Image.{FitsPage, SpellsPage, page_text}
 use Rattle.page.specs.File.{store_header}
-use Rattle.aries_c.specs.declared.image.Image.{Image as ToldImage}
-use Rattle.aries_c.specs.declared.pages.Page.{Page as Told}
-use Rattle.aries_c.specs.Image.{NamesImage}
+use Rattle.journal.specs.declared.entries.PageImage.{PageImage as Told}
+use Rattle.journal.specs.Arrays.{page_of, IsValid}
 
--- number, PageLSN, and slot by slot
+-- number, PageLSN, and what each slot holds
 pub record NamesPage (told : Told) (page : Page) : Type 0 where
-  pub number : told.number ≡ page.number
-  pub lsn : told.lsn ≡ page.lsn
-  pub slots : (i : ℕ) (image : ToldImage) (slot : Image) → i < SLOTS → NamesImage (slice_index_or told.slots i image) (slice_index_or page.slots i slot)
+  pub valid : All IsValid told.slots
+  pub page : page_of told ≡ page
 
--- C gives no page whose slots fit
+-- C gives no page
 abbrev pub NamesNoPage : Told → Type 0
-NamesNoPage told = (page : Page) → NamesPage told page → FitsPage page → ⊥
+NamesNoPage told = (page : Page) → NamesPage told page → ⊥
 
 -- C gets the page of this number that the bytes encode
 abbrev pub TellsPage : (bytes : List ℕ) → (number : ℕ) → Told → Type 0

@@ -12,8 +12,7 @@
 //! - `recovered`, `audited`: recovery and audit from buffer to buffer (`Recovered`).
 //! - `fault`, `text`: the error of a call, with its number, its place and its text (`Fault`).
 //! - `room`: buffers of the caller, which may be too short.
-//! - `image`, `record`, `checkpoint`: values, records and tables as C has them (`Image`, `Record`,
-//!   `Tables`).
+//! - `record`, `checkpoint`: records and tables as C has them (`Image`, `Record`, `Tables`).
 //! - `dump`: the records of a log, many at a time (`Dump`).
 //! - `marks`, `unfinished`: a log record by record, its end, and what an engine has to know that
 //!   continues it (`Marks`, `Unfinished`).
@@ -29,7 +28,6 @@ mod checkpoint;
 mod dump;
 mod fault;
 mod frames;
-mod image;
 mod journal_disk;
 mod journal_opening;
 mod journaling;
@@ -47,7 +45,6 @@ pub use audited::{aries_audit, aries_audit_from};
 pub use checkpoint::{DirtyPage, Entry, Tables};
 pub use dump::{Read, aries_checkpoint, aries_records};
 pub use fault::Fault;
-pub use image::Image;
 pub use journal_disk::{
     aries_journal_checkpoint, aries_journal_log_written, aries_journal_page_to_write,
     aries_journal_page_written,
@@ -59,7 +56,7 @@ pub use journaling::{
 };
 pub use log_writing::{aries_write_checkpoint_end, aries_write_log_header, aries_write_record};
 pub use marks::{LogEnd, Mark, aries_log_begin, aries_log_end, aries_next_record};
-pub use pages::{Page, aries_read_page, aries_write_page, aries_write_store_header};
+pub use pages::{aries_read_page, aries_write_page, aries_write_store_header};
 pub use record::Record;
 pub use recovered::{Recovered, aries_recover};
 pub use text::aries_fault_text;

@@ -8,50 +8,20 @@ ghost use Rattle.aries_c.specs.Pages.{NamesPage, IsStoreHeader, IsPageImage, Nam
 ghost use Rattle.aries_c.specs.Writing.{Wrote, LacksRoom, IsAnswer, HasNoText};
 
 use crate::room::put;
-use crate::{Fault, Image};
-use page::{PAGE_BYTES, PAGES, SLOTS, Value, decode_page, encode_page, store_header};
+use crate::Fault;
+use journal::PageImage;
+use page::{PAGE_BYTES, PAGES, Page, decode_page, encode_page, store_header};
 
-/// A page: its number from 0, its PageLSN, 0 for none, and what its slots hold.
-#[repr(C)]
-#[derive(Clone, Copy)]
-pub struct Page {
-    pub lsn: u64,
-    pub number: u32,
-    pub slots: [Image; SLOTS],
-}
-
-impl Page {
-    /// This page.
-    fn of(page: &page::Page) -> Page
-        ensures { NamesPage result page.now }
-    {
-        let mut slots = [Image::absent(); SLOTS];
-        for (i, slot) in page.slots.iter().enumerate() {
-            slots[i] = Image::of(slot);
-        }
-        Page {
-            lsn: page.lsn,
-            number: page.number,
-            slots,
-        }
+/// The page that C gives; not writable if the length of a slot is wrong.
+fn page_of(told: &PageImage) -> Result<Page, Fault>
+    ensures found { IfOk result (NamesPage told.now) }
+    ensures err { IfErr result (λ e. e ≡ not_writable) }
+    ensures only { OnErr result (NamesNoPage told.now) }
+{
+    if !told.slots.iter().all(|image| image.is_valid()) {
+        return Err(Fault::not_writable());
     }
-
-    /// The page that C gives; not writable if the length of a slot is wrong.
-    fn page(&self) -> Result<page::Page, Fault>
-        ensures found { IfOk result (NamesPage self.now) }
-        ensures err { IfErr result (λ e. e ≡ not_writable) }
-        ensures only { OnErr result (NamesNoPage self.now) }
-    {
-        let mut slots: [Option<Value>; SLOTS] = [None; SLOTS];
-        for (i, image) in self.slots.iter().enumerate() {
-            slots[i] = image.value()?;
-        }
-        Ok(page::Page {
-            number: self.number,
-            lsn: self.lsn,
-            slots,
-        })
-    }
+    Ok(told.page())
 }
 
 /// Writes a store's header to the front of a buffer: its page count, 1 to [`PAGES`], and its master
@@ -79,7 +49,7 @@ pub extern "C" fn aries_write_store_header(
 /// Writes the image of a page, [`PAGE_BYTES`] bytes, to the front of a buffer. 65: a slot holds
 /// neither an absent value nor one of at most `VALUE_BYTES` bytes; 64: the buffer is too short.
 #[unsafe(no_mangle)]
-pub extern "C" fn aries_write_page(page: &Page, out: &mut [u8], told: &mut usize) -> Fault
+pub extern "C" fn aries_write_page(page: &PageImage, out: &mut [u8], told: &mut usize) -> Fault
     ensures written { OnDone result (Wrote (IsPageImage page.now) out.old out.new told.new) }
     ensures no_room { OnNoRoom result (LacksRoom (IsPageImage page.now) out.old told.new) }
     ensures not_writable { OnNotWritable result (HasNoText (IsPageImage page.now)) }
@@ -87,7 +57,7 @@ pub extern "C" fn aries_write_page(page: &Page, out: &mut [u8], told: &mut usize
     ensures kept { OnFailed result (out.new ≡ out.old) }
     ensures untold { OnNotWritable result (told.new ≡ told.old) }
 {
-    match page.page() {
+    match page_of(page) {
         Ok(page) => put(&encode_page(&page), out, told),
         Err(fault) => fault,
     }
@@ -96,7 +66,7 @@ pub extern "C" fn aries_write_page(page: &Page, out: &mut [u8], told: &mut usize
 /// The page of this number whose image the bytes are. For any other bytes the number is 12, with
 /// the page number, and `page` is left as it is.
 #[unsafe(no_mangle)]
-pub extern "C" fn aries_read_page(bytes: &[u8], number: u32, page: &mut Page) -> Fault
+pub extern "C" fn aries_read_page(bytes: &[u8], number: u32, page: &mut PageImage) -> Fault
     ensures read { OnDone result (TellsPage bytes.now number page.new) }
     ensures bad { OnFailed result
         ((result ≡ told_of (BadPage number)) × HasNoPage bytes.now number) }
@@ -104,7 +74,7 @@ pub extern "C" fn aries_read_page(bytes: &[u8], number: u32, page: &mut Page) ->
 {
     match page_in(bytes, number) {
         Ok(read) => {
-            *page = Page::of(&read);
+            *page = PageImage::of(&read);
             Fault::none()
         }
         Err(fault) => Fault::from(fault),
@@ -112,7 +82,7 @@ pub extern "C" fn aries_read_page(bytes: &[u8], number: u32, page: &mut Page) ->
 }
 
 /// The page of this number that the bytes encode.
-fn page_in(bytes: &[u8], number: u32) -> Result<page::Page, page::Fault>
+fn page_in(bytes: &[u8], number: u32) -> Result<Page, page::Fault>
     ensures found { IfOk result (λ page. SpellsPage bytes.now page × (page.number ≡ number)) }
     ensures bad { IfErr result (λ e. (e ≡ BadPage number) × HasNoPage bytes.now number) }
 {

@@ -4,9 +4,12 @@ ghost use Rattle.std.specs.Prelude.{◌≡◌, IfOk, IfErr, OnOk, OnErr};
 ghost use Rattle.wal.specs.Spelling.{Fits};
 ghost use Rattle.wal.specs.Content.{content, shown};
 ghost use Rattle.aries_c.specs.Fault.{not_writable};
+ghost use Rattle.aries_c.specs.Image.{NamesImage, NamesNoImage};
 ghost use Rattle.aries_c.specs.Record.{Names, IsGivenWhole, IsWritable, NamesNoRecord};
 
-use crate::{Fault, Image};
+use crate::Fault;
+use journal::Image;
+use page::Value;
 use wal::RecordView;
 
 /// A record of a log. Fields that its kind does not use are 0, and are not looked at.
@@ -29,6 +32,19 @@ pub struct Record {
     pub before: Image,
     /// The after image of an update; the image of a CLR.
     pub after: Image,
+}
+
+/// The value that C gives; not writable if its length is above [`VALUE_BYTES`](page::VALUE_BYTES)
+/// and not [`ABSENT`](wal::ABSENT).
+fn value_of(image: &Image) -> Result<Option<Value>, Fault>
+    ensures found { IfOk result (NamesImage image.now) }
+    ensures err { IfErr result (λ e. e ≡ not_writable) }
+    ensures only { OnErr result (NamesNoImage image.now) }
+{
+    if !image.is_valid() {
+        return Err(Fault::not_writable());
+    }
+    Ok(image.value())
 }
 
 impl Record {
@@ -128,8 +144,8 @@ impl Record {
                 prev,
                 page: self.page,
                 slot: self.slot,
-                before: self.before.value()?,
-                after: self.after.value()?,
+                before: value_of(&self.before)?,
+                after: value_of(&self.after)?,
             }),
             2 => Ok(wal::Record::Compensation {
                 tx,
@@ -137,7 +153,7 @@ impl Record {
                 page: self.page,
                 slot: self.slot,
                 undo_next: self.next,
-                image: self.after.value()?,
+                image: value_of(&self.after)?,
             }),
             3 => Ok(wal::Record::Commit { tx, prev }),
             4 => Ok(wal::Record::Abort { tx, prev }),

@@ -1,8 +1,9 @@
 -- Images of pages, changed one after the other.
-use Rattle.std.proofs.Common.{◌≡◌, ℕ, suc, ◌+◌, ◌*◌, ◌/◌, ◌<◌, ◌≤◌, List, [], ◌∷◌, ◌++◌, length, get_or, take, drop, sym, ap, ap₂, subst, ◌∙◌, arith}
+use Rattle.std.proofs.Common.{◌≡◌, ℕ, suc, ◌+◌, ◌*◌, ◌/◌, ◌<◌, ◌≤◌, List, [], ◌∷◌, ◌++◌, length, get_or, take, drop, sym, ap, ap₂, subst, ◌∙◌, arith, inl, inr}
 use borrow.Rule.Slice.PartMut.{put_mid}
 use Rattle.std.specs.List.{flat_map}
 use Rattle.std.proofs.Math.Seq.{drop-cons}
+use Rattle.std.proofs.lemmas.Bool.{cases_eq}
 use Rattle.std.proofs.lemmas.Grind.{flat_map-append}
 use Rattle.std.proofs.lemmas.List.{take-append-drop, take_at, drop_at, take_all, length-append, length-take, length-drop, get_or-drop, get_or_default, drop-drop}
 use Rattle.std.proofs.lemmas.List.Elements.{All-take}
@@ -13,8 +14,8 @@ use Rattle.page.specs.Image.{page_text, FitsPage, SpellsPage}
 use Rattle.page.specs.Images.{image_of, AreImages}
 use Rattle.page.proofs.Files.{length-page_text, length-pieces}
 use Rattle.page.proofs.Writing.{images_more}
-use Rattle.changes.specs.Changes.{PageChange, unchanged, changed, AreChanged}
-use Rattle.changes.specs.Images.{AreImagesFrom}
+use Rattle.changes.specs.Changes.{PageChange, PutsSome, unchanged, changed, AreChanged}
+use Rattle.changes.specs.Images.{AreImagesFrom, EncodesPage, HasNoBadImage}
 
 -- the length of images
 pub length-images : (images : List ℕ) (pages : List Page) → AreImages images pages → length images ≡ PAGE_BYTES * length pages
@@ -49,6 +50,25 @@ pub page_there : (first : ℕ) (images : List ℕ) (pages : List Page) (i : ℕ)
 page_there first images pages i d s lt =
     let within : i < length pages = omega (arith, lt, length-images images pages s.encoded) in
     (within, image_there images pages i d s.encoded within, s.at_place i d within)
+
+-- each image before this place into which something is put encoded the page of its number
+abbrev pub GoodSoFar : (changes : List PageChange) → (first : ℕ) → (old : List ℕ) → (place : ℕ) → Type 0
+GoodSoFar changes first old place = (i : ℕ) → i < place → ((c : PageChange) → PutsSome (get_or changes (first + i) c)) → EncodesPage (first + i) (image_of old i)
+
+-- and one more
+pub good_more : (changes : List PageChange) (first : ℕ) (old : List ℕ) (place : ℕ) → GoodSoFar changes first old place → (((c : PageChange) → PutsSome (get_or changes (first + place) c)) → EncodesPage (first + place) (image_of old place))
+    → GoodSoFar changes first old (place + 1)
+good_more changes first old place good one = λ i lt put.
+    elim (cases_eq i place) [
+      | inl e ↦ subst (λ n. EncodesPage (first + n) (image_of old n)) (sym e) (one (λ c. subst (λ n. PutsSome (get_or changes (first + n) c)) e (put c)))
+      | inr other ↦ good i (omega (arith, lt, other)) put
+    ]
+
+-- so none is bad, once all were looked at
+pub none_bad : (changes : List PageChange) (first : ℕ) (old : List ℕ) (place : ℕ) → GoodSoFar changes first old place → length old / PAGE_BYTES ≤ place → HasNoBadImage changes first old
+none_bad changes first old place good all = λ fault bad.
+    let is = good bad.place (omega (arith, all, bad.within)) bad.put in
+    bad.bad is.0 is.1 is.2
 
 -- the image at this place is as it was
 pub image_left : (changes : List PageChange) (first : ℕ) (old : List ℕ) (place k : ℕ) (now : List ℕ) → ChangedSoFar changes first old place now → k ≡ PAGE_BYTES → take k (drop (PAGE_BYTES * place) now) ≡ image_of old place

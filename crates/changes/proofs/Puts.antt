@@ -7,7 +7,7 @@ use Rattle.std.specs.List.{range_with_len}
 use Rattle.page.specs.Image.{Image}
 use Rattle.page.specs.declared.page.Page.{Page}
 use Rattle.page.specs.declared.profile.TheConstants.{SLOTS}
-use Rattle.changes.specs.Changes.{unchanged, slot_after, changed, page_lsn}
+use Rattle.changes.specs.Changes.{PageChange, PutsSome, unchanged, slot_after, changed, page_lsn}
 use Rattle.changes.proofs.Views.{listed_by, at_number}
 use Rattle.changes.specs.Laws.{PutsAreSets}
 
@@ -34,3 +34,9 @@ puts_are_sets = record {
 -- a page into which nothing is put has its PageLSN changed
 pub unchanged_slots : (page : Page) (lsn : ℕ) → length page.slots ≡ SLOTS → changed (unchanged lsn) page ≡ page_lsn lsn page
 unchanged_slots page lsn count = ap (λ (p : Page). page_lsn lsn p) (puts_are_sets.none page count)
+
+-- nothing is put into one that keeps all its slots
+pub puts_none : (c : PageChange) → c ≡ unchanged c.lsn → PutsSome c → ⊥
+puts_none c same puts =
+    let e : None ≡ Some puts.1 = sym (get_or-replicate SLOTS puts.0 None None puts.2) ∙ ap (λ (x : PageChange). get_or x.puts puts.0 None) (sym same) ∙ puts.3 in
+    cc

@@ -13,6 +13,10 @@ pub record AreImagesFrom (first : ℕ) (images : List ℕ) (pages : List Page) :
   pub encoded : AreImages images pages
   pub at_place : (i : ℕ) (d : Page) → i < length pages → (slice_index_or pages i d).number ≡ first + i
 
+-- these bytes encode the page of this number
+abbrev pub EncodesPage : (number : ℕ) → (image : List ℕ) → Type 0
+EncodesPage number image = (page : Page) × SpellsPage image page × (page.number ≡ number)
+
 -- the image at this place does not encode the page first + place, into which something is put
 pub record HasBadImage (changes : List PageChange) (first : ℕ) (images : List ℕ) (fault : Fault) : Type 0 where
   pub place : ℕ
@@ -20,3 +24,7 @@ pub record HasBadImage (changes : List PageChange) (first : ℕ) (images : List 
   pub put : (c : PageChange) → PutsSome (slice_index_or changes (first + place) c)
   pub bad : (page : Page) → SpellsPage (image_of images place) page → page.number ≢ first + place
   pub fault_is : fault ≡ BadPage (first + place)
+
+-- each image into which something is put encodes the page of its number
+abbrev pub HasNoBadImage : (changes : List PageChange) → (first : ℕ) → (images : List ℕ) → Type 0
+HasNoBadImage changes first images = (fault : Fault) → HasBadImage changes first images fault → ⊥
