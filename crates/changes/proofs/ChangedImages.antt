@@ -14,8 +14,8 @@ use Rattle.page.specs.Image.{page_text, FitsPage, SpellsPage}
 use Rattle.page.specs.Images.{image_of, AreImages}
 use Rattle.page.proofs.Files.{length-page_text, length-pieces}
 use Rattle.page.proofs.Writing.{images_more}
-use Rattle.changes.specs.Changes.{PageChange, PutsSome, unchanged, changed, AreChanged}
-use Rattle.changes.specs.Images.{AreImagesFrom, EncodesPage, HasNoBadImage}
+use Rattle.changes.specs.Changes.{PageChange, unchanged, changed, AreChanged}
+use Rattle.changes.specs.Images.{AreImagesFrom, IsGoodImage}
 
 -- the length of images
 pub length-images : (images : List ℕ) (pages : List Page) → AreImages images pages → length images ≡ PAGE_BYTES * length pages
@@ -51,24 +51,17 @@ page_there first images pages i d s lt =
     let within : i < length pages = omega (arith, lt, length-images images pages s.encoded) in
     (within, image_there images pages i d s.encoded within, s.at_place i d within)
 
--- each image before this place into which something is put encoded the page of its number
+-- each image before this place encoded its page, if something is put into that
 abbrev pub GoodSoFar : (changes : List PageChange) → (first : ℕ) → (old : List ℕ) → (place : ℕ) → Type 0
-GoodSoFar changes first old place = (i : ℕ) → i < place → ((c : PageChange) → PutsSome (get_or changes (first + i) c)) → EncodesPage (first + i) (image_of old i)
+GoodSoFar changes first old place = (i : ℕ) → i < place → IsGoodImage changes (first + i) (image_of old i)
 
 -- and one more
-pub good_more : (changes : List PageChange) (first : ℕ) (old : List ℕ) (place : ℕ) → GoodSoFar changes first old place → (((c : PageChange) → PutsSome (get_or changes (first + place) c)) → EncodesPage (first + place) (image_of old place))
-    → GoodSoFar changes first old (place + 1)
-good_more changes first old place good one = λ i lt put.
+pub good_more : (changes : List PageChange) (first : ℕ) (old : List ℕ) (place : ℕ) → GoodSoFar changes first old place → IsGoodImage changes (first + place) (image_of old place) → GoodSoFar changes first old (place + 1)
+good_more changes first old place good one = λ i lt.
     elim (cases_eq i place) [
-      | inl e ↦ subst (λ n. EncodesPage (first + n) (image_of old n)) (sym e) (one (λ c. subst (λ n. PutsSome (get_or changes (first + n) c)) e (put c)))
-      | inr other ↦ good i (omega (arith, lt, other)) put
+      | inl e ↦ subst (λ n. IsGoodImage changes (first + n) (image_of old n)) (sym e) one
+      | inr other ↦ good i (omega (arith, lt, other))
     ]
-
--- so none is bad, once all were looked at
-pub none_bad : (changes : List PageChange) (first : ℕ) (old : List ℕ) (place : ℕ) → GoodSoFar changes first old place → length old / PAGE_BYTES ≤ place → HasNoBadImage changes first old
-none_bad changes first old place good all = λ fault bad.
-    let is = good bad.place (omega (arith, all, bad.within)) bad.put in
-    bad.bad is.0 is.1 is.2
 
 -- the image at this place is as it was
 pub image_left : (changes : List PageChange) (first : ℕ) (old : List ℕ) (place k : ℕ) (now : List ℕ) → ChangedSoFar changes first old place now → k ≡ PAGE_BYTES → take k (drop (PAGE_BYTES * place) now) ≡ image_of old place

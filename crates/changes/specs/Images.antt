@@ -25,6 +25,10 @@ pub record HasBadImage (changes : List PageChange) (first : ℕ) (images : List 
   pub bad : (page : Page) → SpellsPage (image_of images place) page → page.number ≢ first + place
   pub fault_is : fault ≡ BadPage (first + place)
 
--- each image into which something is put encodes the page of its number
-abbrev pub HasNoBadImage : (changes : List PageChange) → (first : ℕ) → (images : List ℕ) → Type 0
-HasNoBadImage changes first images = (fault : Fault) → HasBadImage changes first images fault → ⊥
+-- if something is put into the page of this number, the image encodes it
+abbrev pub IsGoodImage : (changes : List PageChange) → (number : ℕ) → (image : List ℕ) → Type 0
+IsGoodImage changes number image = ((c : PageChange) → PutsSome (slice_index_or changes number c)) → EncodesPage number image
+
+-- so does each of these images
+abbrev pub AreGoodImages : (changes : List PageChange) → (first : ℕ) → (images : List ℕ) → Type 0
+AreGoodImages changes first images = (place : ℕ) → place < length images / PAGE_BYTES → IsGoodImage changes (first + place) (image_of images place)

@@ -6,7 +6,7 @@ ghost use Rattle.page.specs.declared.page.Page.{Page};
 ghost use Rattle.page.specs.declared.profile.TheConstants.{PAGES, PAGE_BYTES};
 ghost use Rattle.page.specs.Image.{SpellsPage};
 ghost use Rattle.changes.specs.Changes.{PageChange, changed, page_lsn, PutsSome, AreChanged};
-ghost use Rattle.changes.specs.Images.{AreImagesFrom, EncodesPage, HasBadImage, HasNoBadImage};
+ghost use Rattle.changes.specs.Images.{AreGoodImages, AreImagesFrom, EncodesPage, HasBadImage, IsGoodImage};
 
 use crate::Changes;
 use crate::parts::count_slots;
@@ -58,8 +58,7 @@ fn change_image(changes: &Changes, number: usize, image: &mut [u8]) -> Result<()
     ensures changed { OnOk result ((page : Page) (c : PageChange) → SpellsPage image.old page
         → page.number ≡ number
         → SpellsPage image.new (changed (slice_index_or changes.now number c) page)) }
-    ensures good { OnOk result (((c : PageChange) → PutsSome (slice_index_or changes.now number c))
-        → EncodesPage number image.old) }
+    ensures good { OnOk result (IsGoodImage changes.now number image.old) }
     ensures put { IfErr result (λ e. (c : PageChange)
         → PutsSome (slice_index_or changes.now number c)) }
     ensures bad { IfErr result (λ e. (e ≡ BadPage number)
@@ -85,7 +84,7 @@ impl Changes {
             → AreImagesFrom first images.old pages → AreChanged (drop first self.now) pages shown
             → AreImagesFrom first images.new shown) }
         ensures only { (pages : List Page) → AreImagesFrom first images.old pages → IsOk result }
-        ensures good { OnOk result (HasNoBadImage self.now first images.old) }
+        ensures good { OnOk result (AreGoodImages self.now first images.old) }
         ensures bad { IfErr result (HasBadImage self.now first images.old) }
     {
         for number in 0..images.len() / PAGE_BYTES {

@@ -4,7 +4,7 @@ use Rattle.page.specs.declared.page.Page.{Page}
 use Rattle.page.specs.declared.profile.TheConstants.{PAGE_BYTES}
 use Rattle.page.specs.Image.{SpellsPage}
 use Rattle.changes.specs.Images.{EncodesPage}
-use Rattle.changes.proofs.ChangedImages.{image_left, page_there, changed_more, changed_all, good_more, none_bad}
+use Rattle.changes.proofs.ChangedImages.{image_left, page_there, changed_more, changed_all, good_more}
 use Rattle.changes.proofs.changes.Changes.change_images.Goals as goal
 
 -- the length of a piece
@@ -52,4 +52,4 @@ pub returns-clause-changed : goal.returns-clause-changed
 returns-clause-changed c = λ pages shown s ch. changed_all _ _ _ _ _ pages shown c.loop-number.invariant.changed (omega (arith, c.loop-number-test.false)) s ch
 
 pub returns-clause-good : goal.returns-clause-good
-returns-clause-good c = none_bad _ _ _ _ c.loop-number.invariant.good (omega (arith, c.loop-number-test.false))
+returns-clause-good c = λ place lt. c.loop-number.invariant.good place (omega (arith, lt, c.loop-number-test.false))
