@@ -81,7 +81,7 @@ never_sink log store options WriteStore h =
     ]
 never_sink log store options e h = tt
 
--- the fault of a source comes before the end of reading
+-- the fault of a source, or a lack of memory, as the first reading tells it
 pub of_source : (own e : Fault) → (own ≡ ReadLog) ⊎ (own ≡ ReadStore) → IsFaultOf own e → (e ≡ ReadLog) ⊎ IsFaultOf ReadStore e
 of_source own e (inl log) (inl none) = inr (inl none)
 of_source own e (inl log) (inr is) = inl (is ∙ log)
