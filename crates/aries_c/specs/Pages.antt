@@ -10,7 +10,7 @@ use Rattle.journal.specs.Arrays.{page_of, IsValid}
 -- number, PageLSN, and what each slot holds
 pub record NamesPage (told : Told) (page : Page) : Type 0 where
   pub valid : All IsValid told.slots
-  pub page : page_of told ≡ page
+  pub shows : page_of told ≡ page
 
 -- C gives no page
 abbrev pub NamesNoPage : Told → Type 0
