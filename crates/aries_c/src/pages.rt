@@ -7,8 +7,8 @@ ghost use Rattle.aries_c.specs.Fault.{told_of, not_writable, OnDone, OnFailed, O
 ghost use Rattle.aries_c.specs.Pages.{NamesPage, IsStoreHeader, IsPageImage, NamesNoPage, TellsPage, HasNoPage};
 ghost use Rattle.aries_c.specs.Writing.{Wrote, LacksRoom, IsAnswer, HasNoText};
 
-use crate::room::put;
 use crate::Fault;
+use crate::room::put;
 use journal::PageImage;
 use page::{PAGE_BYTES, PAGES, Page, decode_page, encode_page, store_header};
 
