@@ -1,19 +1,18 @@
 -- What the calls on a journal promise, for each run of which the arrays of their caller are the journal (own).
-use Rattle.std.specs.Prelude.{◌≡◌, ◌<◌, ◌≤◌, ◌+◌, ℕ, List, length, take}
-use Rattle.log_laws.specs.Meaning.{BasePages, last_on, pending}
+use Rattle.std.specs.Prelude.{◌≡◌, ◌+◌, ℕ, List, length, take}
+use Rattle.log_laws.specs.Meaning.{BasePages}
 use Rattle.journal.specs.declared.table.Need.TheVariants.{NotPrepared}
 use Rattle.journal.specs.declared.entries.Head.{Head}
 use Rattle.journal.specs.declared.entries.TransactionEntry.{TransactionEntry}
 use Rattle.journal.specs.declared.entries.PendingEntry.{PendingEntry}
 use Rattle.journal.specs.declared.entries.PageEntry.{PageEntry}
-use Rattle.journal.specs.Runs.{Run, reported, count_of, log_of}
+use Rattle.journal.specs.Runs.{Run}
 use Rattle.wal.specs.Spelling.{frame}
 use Rattle.journal.specs.declared.image.Image.{Image}
 use Rattle.journal.specs.declared.turns.Turn.{Turn}
 use Rattle.journal.specs.TurnsTaken.{kind_of, Turns}
 use Rattle.journal.specs.Taken.{CheckpointRefused}
 use Rattle.journal.specs.Arrays.{image_of, kept_of}
-use Rattle.journal.specs.Rollbacks.{newest_of}
 use Rattle.journal.specs.Refusals.{BeginRefused, CancelRefused, UpdateRefused, UndoRefused, StepRefused, ReportRefused, LogWrittenRefused, PageToWriteRefused}
 use Rattle.journal.specs.State.{IsJournal, HasBegun as Begins, IsGone as Leaves, HasNoRecord, OthersStay, update_by}
 use Rattle.journal.specs.Outcomes.{Held, IsJournalOf, StaysJournal as StaysTheJournal, IsLogAhead as LogIsAhead, Reports as ReportsPage, IsNewest as NewestIs}

@@ -2,17 +2,14 @@
 use Rattle.std.specs.Prelude.{◌≡◌, ◌≢◌, ◌⊎◌, ℕ, List, length, All}
 use Rattle.page.specs.Store.{StoreContent}
 use Rattle.page.specs.File.{SpellsStore, StoreFault}
-use Rattle.log_laws.specs.declared.state.State.{State}
 use Rattle.log_laws.specs.declared.start.LogStart.{LogStart}
-use Rattle.wal.specs.declared.sizes.TheConstants.{PLAIN_FRAME}
 use Rattle.wal.specs.Headers.{FitsStart}
-use Rattle.log_laws.specs.Records.{LogContent, history, last_lsn, lsn_before}
+use Rattle.log_laws.specs.Records.{LogContent, history, last_lsn}
 use Rattle.log_laws.specs.Meaning.{BasePages}
 use Rattle.wal.specs.Reads.{Reads, Cause}
 use Rattle.log_laws.specs.Pages.{base_pages}
 use Rattle.journal.specs.declared.refusal.Refusal.{Refusal}
 use Rattle.journal.specs.declared.refusal.Refusal.TheVariants.{UnknownTransaction, Forbidden, NoSuchPage, NoSuchSlot, Held, NothingToUndo, StillPending, TooManyTransactions, NoNumber, NoSuchLsn, LogNotWritten, BadImage, NoFrameRoom, NoPendingRoom, BadArrays, LogFull, NoResource, HasRecords, HasMaster, PageAhead, PageBehind}
-use Rattle.journal.specs.declared.table.Need.TheVariants.{NotAborting}
 use Rattle.journal.specs.declared.entries.Head.{Head}
 use Rattle.journal.specs.declared.entries.TransactionEntry.{TransactionEntry}
 use Rattle.journal.specs.declared.entries.PendingEntry.{PendingEntry}
@@ -24,7 +21,6 @@ use Rattle.journal.specs.Opened.{NewRefused, OpenRefused, HasPageBehind}
 use Rattle.journal.specs.PageStates.{IsUpToDate}
 use Rattle.journal.specs.State.{IsJournal}
 use Rattle.aries_c.specs.declared.fault.Fault.{Fault as Told}
-use Rattle.aries_c.specs.declared.fault.TheConstants.{NO_ROOM}
 use Rattle.aries_c.specs.Fault.{no_memory, no_room, not_writable, Tells, OnFailed}
 use Rattle.aries_c.specs.LogHeader.{NamesStart}
 use Rattle.aries_c.specs.Tables.{state_number}

@@ -1,4 +1,4 @@
-use Rattle.std.proofs.Common.{◌≡◌, ◌+◌, length, ap, subst, arith, inl}
+use Rattle.std.proofs.Common.{◌≡◌, length, ap, subst, arith, inl}
 use Rattle.page.specs.Image.{Image}
 use Rattle.log_laws.specs.Records.{LogRecord}
 use Rattle.wal.specs.Spelling.{image}

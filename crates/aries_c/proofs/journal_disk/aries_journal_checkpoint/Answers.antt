@@ -1,4 +1,4 @@
-use Rattle.std.proofs.Common.{◌≡◌, sym, subst}
+use Rattle.std.proofs.Common.{sym, subst}
 use Rattle.journal.specs.Outcomes.{Takes}
 use Rattle.aries_c.proofs.journal_disk.aries_journal_checkpoint.Goals as goal
 

@@ -1,4 +1,3 @@
-use Rattle.std.proofs.Common.{◌≡◌}
 use Rattle.aries_c.proofs.Done.{at_ok}
 use Rattle.aries_c.proofs.journal_disk.aries_journal_page_to_write.Goals as goal
 

@@ -1,4 +1,3 @@
-use Rattle.std.proofs.Common.{◌≡◌}
 use Rattle.aries_c.proofs.Done.{at_ok}
 use Rattle.aries_c.proofs.journaling.aries_journal_cancel.Goals as goal
 

@@ -1,4 +1,4 @@
-use Rattle.std.proofs.Common.{rules, ◌≡◌, inl, inr, refl, sym, subst}
+use Rattle.std.proofs.Common.{inl, inr, refl, sym, subst}
 use Rattle.journal.specs.declared.refusal.Refusal.TheVariants.{BadImage}
 use Rattle.journal.specs.TurnsTaken.{Turns}
 use Rattle.aries_c.proofs.journaling.aries_journal_turn.Goals as goal

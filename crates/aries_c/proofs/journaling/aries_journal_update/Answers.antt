@@ -1,4 +1,4 @@
-use Rattle.std.proofs.Common.{◌≡◌, sym, subst}
+use Rattle.std.proofs.Common.{sym, subst}
 use Rattle.journal.specs.Outcomes.{arrays, Updates}
 use Rattle.aries_c.proofs.journaling.aries_journal_update.Goals as goal
 

@@ -1,6 +1,5 @@
-use Rattle.std.proofs.Common.{◌≡◌, ◌<◌, refl, arith}
+use Rattle.std.proofs.Common.{◌<◌, refl, arith}
 use Rattle.wal.specs.Content.{content}
-use Rattle.aries_c.specs.Record.{IsFrame}
 use Rattle.wal.specs.Spelling.{frame}
 use Rattle.aries_c.proofs.log_writing.aries_write_record.Goals as goal
 

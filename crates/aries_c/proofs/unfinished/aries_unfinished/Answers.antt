@@ -1,4 +1,4 @@
-use Rattle.std.proofs.Common.{◌≡◌, length, map, arith}
+use Rattle.std.proofs.Common.{map, arith}
 use Rattle.std.proofs.lemmas.List.{length-map}
 use Rattle.wal.specs.Content.{entry_of}
 use Rattle.aries_c.proofs.unfinished.aries_unfinished.Goals as goal

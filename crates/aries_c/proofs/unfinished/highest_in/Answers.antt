@@ -1,5 +1,5 @@
-use Rattle.std.proofs.Common.{◌≡◌, ◌≤◌, sym, subst, ◌∙◌, arith}
-use Rattle.log_laws.specs.Records.{history, first, last_lsn, base_lsn, start}
+use Rattle.std.proofs.Common.{sym, subst, arith}
+use Rattle.log_laws.specs.Records.{history}
 use Rattle.log_laws.proofs.Histories.{first_at_base, first_all}
 use Rattle.aries_c.specs.Unfinished.{IsHighest}
 use Rattle.aries_c.proofs.unfinished.highest_in.Goals as goal
