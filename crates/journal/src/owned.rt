@@ -534,6 +534,7 @@ impl Journal {
     /// - Forbidden: the transaction is prepared: it has to commit or to abort first.
     pub fn roll_back(&mut self, tx: u32) -> Result<u64, Refusal>
         ensures ok { OnOk result (RollsBackAll self.old self.new tx) }
+        ensures lsn { IfOk result (λ lsn. lsn ≡ self.new.head.last) }
         ensures rest { LeavesRest self.old self.new }
         ensures others { OnOk result (OthersStay self.old self.new tx) }
         ensures kept { OnErr result (StaysSame self.old self.new) }
@@ -542,8 +543,8 @@ impl Journal {
         if self.newest_pending(tx)? > 0 {
             self.roll_back_to(tx, 0)?;
         }
-        let lsn = self.end(tx)?;
-        Ok(lsn)
+        self.end(tx)?;
+        Ok(self.head.last)
     }
 
     /// A transaction commits, aborts or ends: the record is appended, and its LSN is returned. Room for
