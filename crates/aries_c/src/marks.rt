@@ -2,6 +2,7 @@
 
 ghost use Rattle.std.specs.Prelude.{◌≡◌, ◌+◌, ◌≤◌, ℕ, List, length};
 ghost use Rattle.page.specs.declared.fault.Fault.TheVariants.{BadLogHeader};
+ghost use Rattle.wal.specs.Reads.{Cause};
 ghost use Rattle.cursor.specs.Ends.{IsFirst, IsEnd, EndsAfter, Follows};
 ghost use Rattle.aries_c.specs.Fault.{told_of, OnDone, OnFailed, OnNotWritable};
 ghost use Rattle.aries_c.specs.Marks.{mark_of, TellsNext, TellsWhy, end_of, TellsRest};
@@ -50,6 +51,7 @@ fn mark_told(mark: pieces::Mark) -> Mark
 pub extern "C" fn aries_log_begin(log: &[u8], mark: &mut Mark) -> Fault
     ensures begin { OnDone result (IsFirst log.now (mark_of mark.new)) }
     ensures fault { OnFailed result (result ≡ told_of BadLogHeader) }
+    ensures cause { OnFailed result (Cause log.now BadLogHeader) }
     ensures kept { OnFailed result (mark.new ≡ mark.old) }
 {
     match log_begin(log) {
@@ -123,6 +125,7 @@ pub extern "C" fn aries_log_end(log: &[u8], end: &mut LogEnd) -> Fault
     ensures end { OnDone result (IsEnd log.now (end_of end.new)) }
     ensures rest { OnDone result (TellsRest log.now end.new) }
     ensures fault { OnFailed result (result ≡ told_of BadLogHeader) }
+    ensures cause { OnFailed result (Cause log.now BadLogHeader) }
     ensures kept { OnFailed result (end.new ≡ end.old) }
 {
     match log_end(log) {
