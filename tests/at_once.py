@@ -120,27 +120,31 @@ class Crate:
         return [sorted(set(it.values())) for it in rounds + alone]
 
     def edited(self, edits):
-        """The texts of the files that these edits change, with all of them."""
+        """The texts of the files that these edits change, with all of them; None if what one of them puts in has the old text of another."""
         texts = {}
         for edit in edits:
             for path, old, new in changes_of(edit):
                 text = texts.get(path) or self.text(path)
-                assert text.count(old) == 1, f"{edit}: {old!r} stands in {path} {text.count(old)} times"
+                if text.count(old) != 1:
+                    assert len(edits) > 1, f"{edit}: {old!r} stands in {path} {text.count(old)} times"
+                    return None
                 texts[path] = text.replace(old, new)
         return texts
 
     def verdicts(self, edits):
         """Tries edits together. Yields each with what speaks against it: None if a contract refused it."""
         texts = self.edited(edits)
+        if texts is None:
+            yield from self.halves(edits)
+            return
         shutil.rmtree(self.kept)
         linked(self.base, self.kept)
         status, said = self.check(texts)
         if len(edits) == 1:
             yield edits[0], verdict_on(status, [line for line in said if OF_SOURCE.match(line) or OF_TEXT.match(line)], said)
         elif status != 1 or any(re.search(r"\berror\[", line) for line in said):
-            # One of them is no code, or the prover stopped at a limit: each half by itself.
-            for half in (edits[: len(edits) // 2], edits[len(edits) // 2 :]):
-                yield from self.verdicts(half)
+            # One of them is no code, or the prover stopped at a limit.
+            yield from self.halves(edits)
         else:
             for edit in edits:
                 own = list(said_of(self.functions_of(edit), texts, said))
@@ -148,6 +152,11 @@ class Crate:
                     yield edit, verdict_on(status, own, said)
                 else:
                     yield from self.verdicts([edit])
+
+    def halves(self, edits):
+        """Tries the first half of some edits, and then the others."""
+        for half in (edits[: len(edits) // 2], edits[len(edits) // 2 :]):
+            yield from self.verdicts(half)
 
 
 def said_of(functions, texts, said):
