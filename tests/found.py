@@ -156,6 +156,11 @@ def check_lock(tally, room):
                   f"{audit.stderr} {dump.stderr} {ran.stderr}")
 
 
+def is_turned_away(said):
+    """Whether a run says that another one is at work, or that another one's store came after it had opened the old one."""
+    return said.endswith(WRITING) or b'" was replaced by another program just now: ' in said and said.endswith(WRITING_STORE)
+
+
 def wrong_with_two(room, row, number):
     """What is wrong after two runs that begin one after another, some time apart."""
     words = lambda place: [ARIES, "recover", "--in-place", "--log", place.at("log"), "--store", place.at("store"), *REPLACE]
@@ -168,7 +173,7 @@ def wrong_with_two(room, row, number):
         second = run(words(place))
         _, said = first.communicate()
         ends = [(first.returncode, said), (second.returncode, second.stderr)]
-        is_well = place.files() == replaced(row) and any(status == 0 for status, _ in ends) and all(status == 0 or said.endswith(WRITING) for status, said in ends)
+        is_well = place.files() == replaced(row) and any(status == 0 for status, _ in ends) and all(status == 0 or is_turned_away(said) for status, said in ends)
         return [] if is_well else [f"pair {number}: {ends} {[(name, len(text)) for name, text in place.files().items()]}"]
 
 
