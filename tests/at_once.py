@@ -37,7 +37,8 @@ def changes_of(edit):
 
 
 def functions_in(text):
-    """Yields the functions of a source as `rt fmt` leaves it: name, first line, first line of the body, last line, counted from 0."""
+    """Yields the functions of a source as `rt fmt` leaves it: name, first line, first line of the body, last line, counted from 0. The first line is that of
+    its attributes, if it has some: the prover may say there what it says of the function."""
     lines = text.split("\n")
     for at, line in enumerate(lines):
         head = HEAD.match(line)
@@ -46,7 +47,10 @@ def functions_in(text):
             if body is not None:
                 is_short = lines[body].endswith("}")
                 last = body if is_short else lines.index(head["indent"] + "}", body)
-                yield head["name"], at, body, last
+                first = at
+                while first > 0 and lines[first - 1].lstrip().startswith("#["):
+                    first -= 1
+                yield head["name"], first, body, last
 
 
 def body_after(lines, at, indent):
