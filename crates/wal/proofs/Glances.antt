@@ -41,7 +41,7 @@ plain_seen make see bytes x seen e =
     let is = same_Some _ x a.2 in
     rw a.1 (ap Some (seen a.0.0) ∙ ap (λ (y : LogRecord × List ℕ). Some (glance_of y.0)) is)
 
-checkpoint_seen : (bytes : List ℕ) (x : LogRecord × List ℕ) → checkpoint_at bytes ≡ Some x → Some seen.Checkpoint ≡ Some (glance_of x.0)
+pub checkpoint_seen : (bytes : List ℕ) (x : LogRecord × List ℕ) → checkpoint_at bytes ≡ Some x → Some seen.Checkpoint ≡ Some (glance_of x.0)
 unfolding checkpoint_at
 checkpoint_seen bytes x e =
     let a = bind_some (number_at w64 bytes) _ x e in

@@ -13,6 +13,7 @@ pub mod Images
 pub mod Whole
 pub mod Causes
 pub mod Fronts
+pub mod FirstFrames
 pub mod Keeping
 pub mod Entries
 pub mod TailFits

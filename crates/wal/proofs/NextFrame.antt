@@ -1,23 +1,55 @@
--- The frame at the front, by its size only.
-use Rattle.std.proofs.Common.{◌≡◌, ◌≢◌, ℕ, Option, Some, None, Result, Ok, Err, refl, sym, ap, ◌∙◌, eq-eqb, ne_eqb}
-use Rattle.std.specs.Prelude.{option_map}
+-- The frame at the front, by its size and its glance.
+use Rattle.std.proofs.Common.{◌≡◌, ◌≢◌, ℕ, List, Option, Some, None, Result, Ok, Err, refl, sym, ap, ◌∙◌, eq-eqb, ne_eqb}
+use Rattle.std.proofs.lemmas.Option.{same_Some}
 use Rattle.page.specs.declared.fault.Fault.{Fault}
 use Rattle.page.specs.declared.fault.Fault.TheVariants.{NoResource, BadRecord, BadLsn}
 use Rattle.log_laws.specs.Records.{LogRecord}
+use Rattle.wal.specs.declared.glance.Glance.{Glance}
+use Rattle.wal.specs.declared.glance.Glance.TheVariants as seen
+use Rattle.wal.specs.Reading.{checkpoint_at}
 use Rattle.wal.specs.Frames.{frame_if_right, size_in, Fails}
+use Rattle.wal.specs.Glances.{glance_of, glanced, seen_in}
+use Rattle.wal.proofs.Glances.{checkpoint_seen}
 
--- A BODY by the LSN that it encodes
-pub size_of_none : (lsn offset size : ℕ) (body : Option (LogRecord × ℕ)) → option_map (λ x. x.1) body ≡ None → size_in (frame_if_right lsn offset size body) ≡ Err (BadRecord offset)
-size_of_none lsn offset size None e = refl
-size_of_none lsn offset size (Some x) e = absurd cc
+-- THE END OF A CHECKPOINT at a glance
+pub checkpoint_some : (bytes : List ℕ) (x : LogRecord × List ℕ) → Some x ≡ checkpoint_at bytes → Some (seen.Checkpoint, x.1) ≡ glanced (checkpoint_at bytes)
+checkpoint_some bytes x e =
+    let is = same_Some seen.Checkpoint (glance_of x.0) (checkpoint_seen bytes x (sym e)) in
+    ap (λ g. Some (g, x.1)) is ∙ ap glanced e
 
-pub size_of_right : (lsn offset size own : ℕ) (body : Option (LogRecord × ℕ)) → option_map (λ x. x.1) body ≡ Some own → own ≡ lsn → size_in (frame_if_right lsn offset size body) ≡ Ok (Some size)
-size_of_right lsn offset size own None e is = absurd cc
-size_of_right lsn offset size own (Some x) e is = (let same : x.1 ≡ own = cc in rw (eq-eqb x.1 lsn (same ∙ is)) refl)
+-- A BODY by its glance and its LSN
+pub seen_of_none : (lsn offset size : ℕ) (body : Option (LogRecord × ℕ)) → glanced body ≡ None → seen_in (frame_if_right lsn offset size body) ≡ Err (BadRecord offset)
+seen_of_none lsn offset size None e = refl
+seen_of_none lsn offset size (Some x) e = absurd cc
 
-pub size_of_other : (lsn offset size own : ℕ) (body : Option (LogRecord × ℕ)) → option_map (λ x. x.1) body ≡ Some own → own ≢ lsn → size_in (frame_if_right lsn offset size body) ≡ Err (BadLsn offset)
-size_of_other lsn offset size own None e other = absurd cc
-size_of_other lsn offset size own (Some x) e other = (let same : x.1 ≡ own = cc in rw (ne_eqb x.1 lsn (λ is. other (cc))) refl)
+pub seen_of_right : (lsn offset size own : ℕ) (glance : Glance) (body : Option (LogRecord × ℕ)) → glanced body ≡ Some (glance, own) → own ≡ lsn
+    → seen_in (frame_if_right lsn offset size body) ≡ Ok (Some (size, glance))
+seen_of_right lsn offset size own glance None e is = absurd cc
+seen_of_right lsn offset size own glance (Some x) e is =
+    let same = same_Some (glance_of x.0, x.1) (glance, own) e in
+    rw (eq-eqb x.1 lsn (ap (λ y. y.1) same ∙ is)) (ap (λ (y : Glance × ℕ). Ok (Some (size, y.0))) same)
+
+pub seen_of_other : (lsn offset size own : ℕ) (glance : Glance) (body : Option (LogRecord × ℕ)) → glanced body ≡ Some (glance, own) → own ≢ lsn
+    → seen_in (frame_if_right lsn offset size body) ≡ Err (BadLsn offset)
+seen_of_other lsn offset size own glance None e other = absurd cc
+seen_of_other lsn offset size own glance (Some x) e other =
+    let same = same_Some (glance_of x.0, x.1) (glance, own) e in
+    rw (ne_eqb x.1 lsn (λ is. other (sym (ap (λ y. y.1) same) ∙ is))) refl
+
+-- WHAT WAS SEEN, by its size
+pub size_of_frame : (next : Result (Option (LogRecord × ℕ)) Fault) (size : ℕ) (glance : Glance) → seen_in next ≡ Ok (Some (size, glance)) → size_in next ≡ Ok (Some size)
+size_of_frame (Err e) size glance h = absurd cc
+size_of_frame (Ok None) size glance h = absurd cc
+size_of_frame (Ok (Some x)) size glance h = (let same : ◌≡◌ {A = ℕ × Glance} (x.1, glance_of x.0) (size, glance) = cc in ap (λ (y : ℕ × Glance). Ok (Some y.0)) same)
+
+pub size_of_no_frame : (next : Result (Option (LogRecord × ℕ)) Fault) → seen_in next ≡ Ok None → size_in next ≡ Ok None
+size_of_no_frame (Err e) h = absurd cc
+size_of_no_frame (Ok None) h = refl
+size_of_no_frame (Ok (Some x)) h = absurd cc
+
+pub size_of_fault : (next : Result (Option (LogRecord × ℕ)) Fault) (e : Fault) → seen_in next ≡ Err e → size_in next ≡ Err e
+size_of_fault (Err f) e h = (let same : f ≡ e = cc in ap Err same)
+size_of_fault (Ok x) e h = absurd cc
 
 -- WHAT WAS SIZED
 pub sized : (next : Result (Option (LogRecord × ℕ)) Fault) (size : ℕ) → size_in next ≡ Ok (Some size) → (r : LogRecord) × (next ≡ Ok (Some (r, size)))

@@ -1,6 +1,7 @@
 -- What is seen of a record at a glance.
-use Rattle.std.specs.Prelude.{◌≡◌, ℕ, ◌+◌, List, [], ◌∷◌, Option, Some, None, ◌==◌, if◌then◌else◌}
+use Rattle.std.specs.Prelude.{◌≡◌, ℕ, ◌+◌, List, [], ◌∷◌, Option, Some, None, Result, Ok, Err, ◌==◌, if◌then◌else◌, option_map}
 use Rattle.std.specs.Int.{w32, w64}
+use Rattle.page.specs.declared.fault.Fault.{Fault}
 use Rattle.wal.specs.declared.glance.Glance.{Glance}
 use Rattle.wal.specs.declared.glance.Glance.TheVariants as seen
 use Rattle.log_laws.specs.Records.{LogRecord, Update, Compensation, Commit, Abort, End, Prepare, CheckpointBegin, CheckpointEnd, History, ◌▸◌, record_at, first}
@@ -17,6 +18,15 @@ glance_of (End s) = seen.End s.tx
 glance_of (Prepare s) = seen.Prepare s.tx
 glance_of CheckpointBegin = seen.Checkpoint
 glance_of (CheckpointEnd begin transactions dirty) = seen.Checkpoint
+
+-- a record that was read, at a glance, and what was read with it
+abbrev pub glanced : {X : Type 0} → Option (LogRecord × X) → Option (Glance × X)
+glanced read = option_map (λ x. (glance_of x.0, x.1)) read
+
+-- the bytes that a frame takes, and its record at a glance
+abbrev pub seen_in : Result (Option (LogRecord × ℕ)) Fault → Result (Option (ℕ × Glance)) Fault
+seen_in (Ok next) = Ok (option_map (λ x. (x.1, glance_of x.0)) next)
+seen_in (Err e) = Err e
 
 -- the transaction of the record; a record of a checkpoint has none
 abbrev pub owner_seen : Glance → Option ℕ

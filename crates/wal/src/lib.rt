@@ -17,8 +17,8 @@
 //! - `header`: the header of a log file (`Headers`).
 //! - `head`, `frame`, `frame_size`: a record as a frame, written and read as a whole (`Head`,
 //!   `Frames`).
-//! - `next`, `glance`, `image`, `body`: the parts of a frame that most passes read: where it ends, its
-//!   cell, its image, its body (`Glances`).
+//! - `next`, `glance`, `image`, `body`: the parts of a frame that most passes read: where it ends and
+//!   what is seen of it, its cell, its image, its body (`Glances`).
 //! - `offsets`, `part`, `stretch`, `joining`: frames one after another, and the stretches of a log
 //!   that several threads read at once (`Stretches`).
 //! - `reading`, `log`: the log that frames make, and its records by LSN (`Reads`).
@@ -61,7 +61,7 @@ pub use laws::{
 };
 pub use log::{Log, first_frames, read_log, read_log_behind, read_log_by};
 pub use log_laws::{LogStart, State};
-pub use next::next_at;
+pub use next::{next_at, seen_at};
 pub use record::{Entry, Record};
 pub use sizes::{
     ABSENT, BASED_HEADER_BYTES, CELL_HEAD, CHECKPOINT_FRAME, DIRTY_BYTES, ENTRY_BYTES,
