@@ -5,6 +5,8 @@ pub mod FirstReading
 pub mod Nexts
 pub mod Finding
 pub mod ReadForward
+pub mod OneByOne
+pub mod Taken
 pub mod Redoing
 pub mod InPieces
 pub mod Listing

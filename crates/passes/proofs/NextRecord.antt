@@ -1,10 +1,12 @@
--- The tallies with one more record of a piece.
-use Rattle.std.proofs.Common.{◌≡◌, ℕ, ◌+◌, ◌-◌, List, length, sym, ◌∙◌, subst, arith}
+-- The tallies with one more record.
+use Rattle.std.proofs.Common.{◌≡◌, ℕ, ◌+◌, ◌-◌, ◌<◌, ◌≤◌, ◌⊎◌, List, Some, length, inl, inr, ap, sym, ◌∙◌, subst, arith}
+use Rattle.std.proofs.lemmas.Bool.{cases_eq}
+use Rattle.std.proofs.lemmas.Option.{same_Some}
 use Rattle.page.specs.declared.fault.Fault.{Fault}
 use Rattle.page.specs.declared.page.Page.{Page}
 use Rattle.wal.specs.declared.glance.Glance.{Glance}
 use Rattle.wal.specs.Glances.{glance_of, IsGlanceBehind}
-use Rattle.log_laws.specs.Records.{LogRecord, LogContent, history, base_lsn}
+use Rattle.log_laws.specs.Records.{LogRecord, LogContent, history, base_lsn, record_at}
 use Rattle.log_laws.proofs.Histories.{record_above}
 use Rattle.tables.specs.Pieces.{IsPieceOf}
 use Rattle.redo.specs.Inputs.{InputContent, input_over}
@@ -12,9 +14,11 @@ use Rattle.redo.specs.Changes.{NamesBelow}
 use Rattle.redo.specs.Routes.{NoteFault}
 use Rattle.redo.specs.OnePass.{AreUpTo}
 use Rattle.redo.specs.Passing.{TalliesSoFar, IsPieceFor, IsRecordFor}
-use Rattle.redo.specs.Redone.{RedoFault}
 use Rattle.redo.proofs.OneMore.{record_of_piece, counted_behind, exist_with, refused_at}
+use Rattle.tables.specs.Tables.{TablesContent}
+use Rattle.redo.specs.Redone.{IsLookedAt, ExistBelow, RedoFault}
 use Rattle.passes.specs.Listing.{AreTalliedByAll}
+use Rattle.passes.specs.Redoing.{AreTalliedUpTo}
 
 module _ (whole piece : LogContent) (images : List Page) (lsn : ℕ) (glance : Glance) (old : TalliesSoFar) (own : IsPieceOf (history whole) (history piece)) (seen : IsGlanceBehind (history piece) lsn glance) (before : AreTalliedByAll whole images lsn old) where
   abbrev input : InputContent
@@ -51,3 +55,30 @@ module _ (whole piece : LogContent) (images : List Page) (lsn : ℕ) (glance : G
       subst (λ n. RedoFault whole (length images) n 1 e) begins
       (refused_at whole (length images) before.listed.redo_lsn (lsn + 1) is_next.entry is_next.there before.tallied.exist e ((λ zero. omega (arith, begins, zero)), omega (arith, begins, above))
       (subst (λ n. NoteFault n (lsn + 1) is_next.entry e) before.tallied.tallied.count (cause is_next.entry is_next.seen_of)))
+
+-- BY TABLES: the record after an LSN, if redo looks at it
+module _ (whole : LogContent) (images : List Page) (tables : TablesContent) (lsn : ℕ) (glance : Glance) (r : LogRecord) (old new : TalliesSoFar) (there : record_at (history whole) (lsn + 1) ≡ Some r) (seen : glance ≡ glance_of r) where
+  pub taken_next : new.redo_lsn ≡ old.redo_lsn → new.upto ≤ lsn + 1 → AreTalliedUpTo whole images tables lsn old
+      → ((input : InputContent) → IsRecordFor input old.redo_lsn (lsn + 1) glance → AreUpTo input lsn old.tallies → AreUpTo input (lsn + 1) new.tallies)
+      → ((x : LogRecord) → glance ≡ glance_of x → IsLookedAt old.redo_lsn (lsn + 1) → NamesBelow (length old.tallies) x) → AreTalliedUpTo whole images tables (lsn + 1) new
+  taken_next same upto before goes_on exists = record {
+    numbered = before.numbered;
+    from = before.from ∙ sym same;
+    upto = upto;
+    tallied = goes_on (input_over whole images tables) (record { numbered = before.numbered; from = before.from; entry = r; there = there; seen_of = seen }) before.tallied;
+    exist = λ k x looked less found.
+        elim (cases_eq k (lsn + 1)) [
+          | inl here ↦
+              (let one : x ≡ r = same_Some x r (sym found ∙ (ap (record_at (history whole)) here ∙ there)) in
+              subst (NamesBelow (length images)) (sym one)
+              (subst (λ n. NamesBelow n r) before.tallied.count (exists r seen (subst (λ n. IsLookedAt n (lsn + 1)) before.from (subst (IsLookedAt tables.redo_lsn) here looked)))))
+          | inr other ↦ before.exist k x looked (omega (arith, less, other)) found
+        ];
+  }
+
+-- or refused
+pub stopped_next : (whole : LogContent) (images : List Page) (tables : TablesContent) (lsn : ℕ) (r : LogRecord) (old : TalliesSoFar) (e : Fault) → record_at (history whole) (lsn + 1) ≡ Some r → AreTalliedUpTo whole images tables lsn old
+    → IsLookedAt old.redo_lsn (lsn + 1) → NoteFault (length old.tallies) (lsn + 1) r e → RedoFault whole (length images) tables.redo_lsn 1 e
+stopped_next whole images tables lsn r old e there before looked cause =
+    refused_at whole (length images) tables.redo_lsn (lsn + 1) r there before.exist e (subst (λ n. IsLookedAt n (lsn + 1)) (sym before.from) looked)
+    (subst (λ n. NoteFault n (lsn + 1) r e) before.tallied.count cause)

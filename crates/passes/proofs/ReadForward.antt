@@ -38,6 +38,15 @@ is_whole text whole before torn mark reads is end =
     (omega (arith, end, is.lsn, size_of_log whole, size_of_log before, ap lsn_before starts, ap length more.1, length-append before.records more.0)) in
     ap₂ (λ b (rs : List LogRecord). record { begins = b; records = rs }) (sym starts) (sym (more.1 ∙ ap (λ (rs : List LogRecord). before.records ++ rs) none ∙ append-nil before.records))
 
+-- a mark of a log is between its base LSN and its last
+pub mark_within : (text : List ℕ) (whole before : LogContent) (torn : ℕ) (mark : Mark) → Reads text whole torn → IsMark text before mark → (base_lsn (history whole) ≤ mark.lsn) × (mark.lsn ≤ last_lsn (history whole))
+mark_within text whole before torn mark reads is =
+    let more = records_begin text whole torn reads before mark.offset is.reads in
+    let starts = same_start text whole torn reads before mark.offset is.reads in (
+      omega (arith, is.lsn, size_of_log before, base_of_log whole, ap lsn_before starts),
+      omega (arith, is.lsn, size_of_log before, size_of_log whole, ap lsn_before starts, ap length more.1, length-append before.records more.0),
+    )
+
 -- after a mark the rest of the log comes
 pub rest_of : (text : List ℕ) (whole before : LogContent) (torn : ℕ) (mark : Mark) → Reads text whole torn → IsMark text before mark → (more : List LogRecord) × (before ⧺ more ≡ whole)
 rest_of text whole before torn mark reads is =

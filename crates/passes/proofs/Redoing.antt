@@ -14,7 +14,6 @@ use Rattle.tables.specs.Tables.{TablesContent}
 use Rattle.tables.specs.Pieces.{IsPieceOf}
 use Rattle.pieces.specs.declared.mark.Mark.{Mark}
 use Rattle.pieces.specs.Pieces.{IsMark}
-use Rattle.pieces.proofs.Beginnings.{records_begin, same_start}
 use Rattle.redo.specs.declared.wanted.Wanted.{Wanted}
 use Rattle.redo.specs.Inputs.{InputContent, input_over}
 use Rattle.redo.specs.Parts.{redo_page_in, image_at}
@@ -34,15 +33,6 @@ use Rattle.passes.specs.Redoing.{RedoCause, AreTalliedUpTo}
 use Rattle.wal.specs.declared.sizes.TheConstants.{BASED_HEADER_BYTES}
 
 -- WHERE REDO BEGINS
--- a mark of a log is between its base LSN and its last
-pub mark_within : (text : List ℕ) (whole before : LogContent) (torn : ℕ) (mark : Mark) → Reads text whole torn → IsMark text before mark → (base_lsn (history whole) ≤ mark.lsn) × (mark.lsn ≤ last_lsn (history whole))
-mark_within text whole before torn mark reads is =
-    let more = records_begin text whole torn reads before mark.offset is.reads in
-    let starts = same_start text whole torn reads before mark.offset is.reads in (
-      omega (arith, is.lsn, size_of_log before, base_of_log whole, ap lsn_before starts),
-      omega (arith, is.lsn, size_of_log before, size_of_log whole, ap lsn_before starts, ap length more.1, length-append before.records more.0),
-    )
-
 -- redo looks at no record up to the LSN that it skips
 pub before_redo : (base redo_lsn last lsn : ℕ) → lsn ≤ last → (lsn ≡ base) ⊎ (lsn < redo_lsn) → 0 < redo_lsn → lsn ≤ skipped base redo_lsn last
 before_redo base zero last lsn le either_way some = absurd (omega (arith, some))

@@ -1,15 +1,18 @@
 -- A pass over the log that a device holds: what it has done, and why it stops (own).
-use Rattle.std.specs.Prelude.{◌≡◌, ◌⊎◌, ⊤, ℕ, List, [], Option, Some}
-use Rattle.log_laws.specs.Records.{LogContent}
+use Rattle.std.specs.Prelude.{◌≡◌, ◌⊎◌, ⊤, ℕ, ◌≤◌, List, [], take, length, Option, Some}
+use Rattle.page.specs.declared.fault.Fault.{Fault}
+use Rattle.log_laws.specs.Records.{LogContent, history, last_lsn}
 use Rattle.wal.specs.Reads.{Reads, Cause}
+use Rattle.wal.specs.declared.sizes.TheConstants.{BASED_HEADER_BYTES}
 use Rattle.pieces.specs.declared.mark.Mark.{Mark}
-use Rattle.pieces.specs.Pieces.{IsFirstMark, IsMark}
+use Rattle.pieces.specs.Pieces.{IsFirstMark, IsMark, moved}
 use Rattle.passes.specs.declared.fault.PassFault.{PassFault}
 use Rattle.passes.specs.declared.fault.PassFault.TheVariants as fault
 use Rattle.passes.specs.declared.pass.Pass.{Ghosts as Pass}
 use Rattle.passes.specs.Calls.{ForMark, ForText, ToEnd}
 use Rattle.passes.specs.Marks.{AreFound}
 use Rattle.passes.specs.Next.{IsBefore}
+use Rattle.passes.specs.Pieces.{PassesOver, StopsIn}
 
 -- P is true of each log that the bytes of a device read as, and of the log before its first record, if this is the first mark
 abbrev pub FromFirst : (held : Option (List ℕ)) → Mark → ((before whole : LogContent) → Type 0) → Type 0
@@ -20,6 +23,19 @@ abbrev pub FindsFrom : (held : Option (List ℕ)) → Mark → (room : ℕ) → 
 FindsFrom held first room marks torn = ForText held (λ text. IsFirstMark text first → AreFound text room marks torn)
 
 module _ {P : Type 0} (pass : Pass P) where
+  -- OF A PIECE in these bytes
+  -- it has taken the records, of which the last has this LSN, and so many bytes come after them
+  abbrev pub ReadsOver : (bytes : List ℕ) → (old new : P) → (last torn : ℕ) → Type 0
+  ReadsOver bytes old new last torn = (piece : LogContent) × Reads bytes piece torn × (last_lsn (history piece) ≡ last) × PassesOver pass.passes old new piece
+
+  -- it has a fault at the last of the first records
+  abbrev pub StopsInFront : (bytes : List ℕ) → P → Fault → Type 0
+  StopsInFront bytes old e = (count : ℕ) × (front : LogContent) × (BASED_HEADER_BYTES ≤ count) × (count ≤ length bytes) × Reads (take count bytes) front 0 × StopsIn pass.stops old front e
+
+  -- the piece comes after a mark, and has a fault, or the pass has one
+  abbrev pub StopsOver : (bytes : List ℕ) → Mark → P → Fault → Type 0
+  StopsOver bytes mark old e = ((own : Fault) × (e ≡ moved mark own) × Cause bytes own) ⊎ (pass.may_stop e × StopsInFront bytes old e)
+
   -- IT HAS TAKEN
   -- the piece between two marks
   abbrev pub Takes : (held : Option (List ℕ)) → Mark → (old new : P) → (next : Mark) → Type 0
@@ -38,6 +54,10 @@ module _ {P : Type 0} (pass : Pass P) where
   abbrev pub Stops : P → (whole before : LogContent) → PassFault → Type 0
   Stops old whole before fault.Failed = ⊤
   Stops old whole before (fault.Fault e) = pass.stops old whole before e
+
+  -- after a mark
+  abbrev pub StopsAfter : (held : Option (List ℕ)) → Mark → P → PassFault → Type 0
+  StopsAfter held mark old e = (text : List ℕ) (whole before : LogContent) (torn : ℕ) → held ≡ Some text → Reads text whole torn → IsMark text before mark → Stops old whole before e
 
   -- in the piece after a mark
   abbrev pub StopsBefore : (held : Option (List ℕ)) → Mark → (end : ℕ) → P → PassFault → Type 0

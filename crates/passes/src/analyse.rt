@@ -18,7 +18,7 @@ use pieces::Mark;
 use std::alloc::Global;
 use std::collections::BTreeMap;
 use tables::Tables;
-use wal::{Entry, Log};
+use wal::{Entry, Glance, body_view};
 
 impl Pass for CheckpointScan {
     ghost use Rattle.std.proofs.Common.{refl};
@@ -46,8 +46,11 @@ impl Pass for CheckpointScan {
 
     ghost stops_for_memory = { λ scan whole before. refl };
 
-    fn take(&mut self, piece: &Log) -> Result<(), Fault> {
-        self.pass(piece)
+    fn take(&mut self, lsn: u64, _glance: Glance, body: &[u8]) -> Result<(), Fault> {
+        let Some(record) = body_view(body) else {
+            unreachable!()
+        };
+        self.take(lsn, &record)
     }
 
     fn is_done(&self) -> bool {
@@ -94,8 +97,9 @@ impl Pass for Analysis {
 
     ghost stops_for_memory = { λ scan whole before. refl };
 
-    fn take(&mut self, piece: &Log) -> Result<(), Fault> {
-        self.tables.pass(piece, self.master)
+    #[inline(always)]
+    fn take(&mut self, lsn: u64, glance: Glance, _body: &[u8]) -> Result<(), Fault> {
+        self.tables.take(lsn, glance, self.master)
     }
 
     fn is_done(&self) -> bool {
@@ -107,7 +111,7 @@ impl Pass for Analysis {
 /// looked for after the mark `from`. The checkpoint's begin record is not before that mark.
 ///
 /// Errors: `BadMaster` if there is no checkpoint begin record at the master, or no later checkpoint
-/// end record names it; those of [`piece_before`](crate::piece_before).
+/// end record names it; those of [`pass_to_end`].
 fn checkpoint_tables<S: Reread>(
     alloc: Global,
     source: &mut S,
@@ -126,7 +130,7 @@ fn checkpoint_tables<S: Reread>(
     ensures source { HasRead S.text S.failures S.read_to source.old source.new result }
 {
     let mut scan = CheckpointScan::new(alloc, master);
-    pass_to_end(alloc, source, from, end, room, &mut scan)?;
+    pass_to_end(source, from, end, room, &mut scan)?;
     let tables = scan.finish()?;
     Ok(tables)
 }
@@ -158,7 +162,7 @@ pub fn tables_in_pieces<S: Reread>(
     let (transactions, dirty) = checkpoint_tables(alloc, source, from, end, room, master)?;
     let tables = TableScan::begin(alloc, transactions, dirty)?;
     let mut analysis = Analysis { tables, master };
-    pass_to_end(alloc, source, from, end, room, &mut analysis)?;
+    pass_to_end(source, from, end, room, &mut analysis)?;
     let tables = analysis.tables.finish(base)?;
     Ok(tables)
 }

@@ -16,7 +16,7 @@ use device::{Reread, read_full_at};
 use page::Fault;
 use pieces::{Mark, first_mark};
 use std::alloc::Global;
-use wal::{BASED_HEADER_BYTES, Log};
+use wal::{BASED_HEADER_BYTES, Glance};
 
 /// The mark before the first record of the log that a source holds.
 ///
@@ -67,7 +67,7 @@ pub fn read_from_first<S: Reread, P: Pass>(
     let mut marks = Marks::begin(alloc, first)?;
     for _ in 0..u64::MAX {
         let mark = marks.end();
-        let (next, torn) = take_next(alloc, source, mark, room, pass)?;
+        let (next, torn) = take_next(source, mark, room, pass)?;
         if next.lsn == mark.lsn {
             return Ok((marks, torn));
         }
@@ -104,7 +104,8 @@ impl Pass for NoPass {
 
     ghost stops_for_memory = { λ scan whole before. tt };
 
-    fn take(&mut self, _piece: &Log) -> Result<(), Fault> {
+    #[inline(always)]
+    fn take(&mut self, _lsn: u64, _glance: Glance, _body: &[u8]) -> Result<(), Fault> {
         Ok(())
     }
 

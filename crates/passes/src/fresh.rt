@@ -23,7 +23,7 @@ use redo::TallyScan;
 use std::alloc::Global;
 use std::collections::BTreeMap;
 use tables::Tables;
-use wal::{Glance, Log};
+use wal::Glance;
 
 /// Analysis and redo while a log without a checkpoint is read.
 #[derive(Drop)]
@@ -82,27 +82,6 @@ fn tally_next(
     }
 }
 
-/// Looks at the records of the next piece for analysis and for redo. Each is decoded once for both.
-///
-/// The only error is `NoResource`, if memory was refused.
-fn scan_piece(piece: &Log, scan: &mut ForwardScan) -> Result<(), Fault>
-    requires { scan.old.tallies.upto ≤ base_lsn (history piece.now) }
-    ensures analysed { OnOk result (AnalysesPiece piece.now scan.old.tables scan.new.tables) }
-    ensures tallied { OnOk result (TalliesPiece piece.now scan.old scan.new) }
-    ensures upto { OnOk result (scan.new.tallies.upto ≤ last_lsn (history piece.now)) }
-    ensures count { OnOk result (length scan.new.tallies.tallies
-        ≡ length scan.old.tallies.tallies) }
-    ensures no_transaction_0 { OnOk result (HasNone0 scan.old.tables → HasNone0 scan.new.tables) }
-    ensures err { IsOkUnless result NoResource }
-{
-    for lsn in piece.base()..piece.last() {
-        let glance = piece.glance_after(lsn);
-        scan.tables.note(glance, lsn + 1)?;
-        scan.fault = tally_next(&mut scan.tallies, scan.fault, glance, lsn);
-    }
-    Ok(())
-}
-
 impl Pass for ForwardScan {
     ghost use Rattle.std.proofs.Common.{refl, ◌∙◌};
 
@@ -132,8 +111,11 @@ impl Pass for ForwardScan {
 
     ghost stops_for_memory = { λ scan whole before. refl };
 
-    fn take(&mut self, piece: &Log) -> Result<(), Fault> {
-        scan_piece(piece, self)
+    #[inline(always)]
+    fn take(&mut self, lsn: u64, glance: Glance, _body: &[u8]) -> Result<(), Fault> {
+        self.tables.take(lsn, glance, 0)?;
+        self.fault = tally_next(&mut self.tallies, self.fault, glance, lsn);
+        Ok(())
     }
 
     fn is_done(&self) -> bool {

@@ -15,8 +15,9 @@
 //!   together (`Listing`).
 //! - `find`, `marks`: the first reading, and the marks between which the log is read again
 //!   (`Marks`).
-//! - `pass`, `forward`: what looks at the pieces, and how they are read for it (`Pieces`, `Passes`).
-//! - `next`, `piece`: the piece after a mark (`Next`).
+//! - `pass`, `frames`, `forward`: what looks at the records, and how frames and pieces are read for
+//!   it (`Pieces`, `Passes`, `Next`).
+//! - `piece`: a piece that is read once more.
 //! - `analyse`: analysis, from the mark before the checkpoint on (`Tables`).
 //! - `repeat`: redo, which takes the tallies from the mark before its first record on, and then the
 //!   images (`Redoing`).
@@ -28,11 +29,11 @@ mod analyse;
 mod fault;
 mod find;
 mod forward;
+mod frames;
 mod fresh;
 mod gather;
 mod in_pieces;
 mod marks;
-mod next;
 mod pass;
 mod piece;
 mod repeat;
@@ -43,5 +44,4 @@ pub use find::find_marks;
 pub use gather::gather_for_undo;
 pub use in_pieces::{Restarted, restart_in_pieces};
 pub use marks::Marks;
-pub use next::{next_piece, piece_before};
 pub use repeat::redo_in_pieces;

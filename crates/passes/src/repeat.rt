@@ -19,7 +19,7 @@ use pieces::Mark;
 use redo::{TallyScan, Wanted, fetch_from};
 use std::alloc::Global;
 use tables::Tables;
-use wal::Log;
+use wal::Glance;
 
 /// The mark from which redo reads a log: the last one before the record at `redo_lsn`, or the first
 /// one if there is none before it; the mark at the log's end if `redo_lsn` is 0.
@@ -61,8 +61,9 @@ impl Pass for TallyScan {
 
     ghost stops_for_memory = { λ scan whole before images tables tallied. tt };
 
-    fn take(&mut self, piece: &Log) -> Result<(), Fault> {
-        self.pass(piece)
+    #[inline(always)]
+    fn take(&mut self, lsn: u64, glance: Glance, _body: &[u8]) -> Result<(), Fault> {
+        self.take(lsn, glance)
     }
 
     fn is_done(&self) -> bool {
@@ -94,7 +95,7 @@ fn tally_in_pieces<S: Reread, P: Pages>(
     let _count = marks.len();
     let base = marks.at(0).lsn.min(from.lsn);
     let mut scan = TallyScan::begin(alloc, pages, tables, base)?;
-    pass_to_end(alloc, source, from, end, room, &mut scan)?;
+    pass_to_end(source, from, end, room, &mut scan)?;
     Ok(scan)
 }
 

@@ -22,5 +22,5 @@ mod read;
 
 pub use laws::pieces_belong;
 pub use mark::Mark;
-pub use piece::piece_log;
+pub use piece::{moved, piece_log};
 pub use read::{first_mark, read_piece};

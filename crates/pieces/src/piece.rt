@@ -20,7 +20,7 @@ fn offset_in_log(mark: Mark, offset: u64) -> u64
 }
 
 /// The fault of a piece after this mark, with its offset counted from the log's beginning.
-fn moved(mark: Mark, fault: Fault) -> Fault
+pub fn moved(mark: Mark, fault: Fault) -> Fault
     requires { OffsetFits mark.offset fault }
     ensures { result ≡ moved mark fault }
 {

@@ -1,6 +1,6 @@
 //! The pieces of a log, read from a device.
 
-ghost use Rattle.std.specs.Prelude.{◌≡◌, ◌+◌, ◌≤◌, ◌<◌, ◌^◌, drop, length, take, IfErr, IfOk};
+ghost use Rattle.std.specs.Prelude.{◌≡◌, ◌+◌, ◌≤◌, ◌<◌, ◌^◌, drop, length, take, IfErr, IfOk, OnOk};
 ghost use Rattle.std.specs.Io.KnownBytes.{Keeps};
 ghost use Rattle.device.specs.Failures.{Counts};
 ghost use Rattle.device.specs.Reread.{EndsBy, ReadsFrom};
@@ -78,6 +78,8 @@ pub fn read_piece<S: Reread>(source: &mut S, mark: Mark, room: &mut [u8]) -> Res
     requires reach { mark.offset + length room.old ≤ 2 ^ 64 }
     ensures header { IfOk result (λ count. BASED_HEADER_BYTES ≤ count) }
     ensures within { IfOk result (λ count. count ≤ length room.new) }
+    ensures begins { OnOk result
+        (take BASED_HEADER_BYTES room.new ≡ header_of (Version2 mark.lsn)) }
     ensures piece { IfOk result (λ count. HoldsPiece (S.text source.old) mark count room.new) }
     ensures end { IfOk result (λ count. EndsInRoom (S.text source.old) mark count room.new) }
     ensures same { Keeps (S.text source.old) (S.text source.new) }

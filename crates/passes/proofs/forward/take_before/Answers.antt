@@ -1,36 +1,26 @@
-use Rattle.std.proofs.Common.{sym, subst}
+use Rattle.std.proofs.Common.{arith}
 use Rattle.std.proofs.lemmas.Result.{err_from_is_err_and}
-use Rattle.log_laws.specs.Records.{◌⧺◌}
-use Rattle.passes.proofs.ReadForward.{goes_on_at}
-use Rattle.passes.proofs.Passes.{stops_for_resource}
+use Rattle.passes.proofs.Nexts.{one_more}
+use Rattle.passes.proofs.ReadForward.{mark_within}
+use Rattle.passes.proofs.forward.take_before.Goals.{then-next-mark-via-then-next-mark, then-next-mark-via-else-next-mark+then-end-next}
 use Rattle.passes.proofs.forward.take_before.Goals as goal
 
-pub take-requires : goal.take-requires
-take-requires g c = subst (g.P.Pass.is_ready c.args.pass.now) (sym c.in_ok-piece.ensures.base) c.requires.ready
-
-pub returns-in_err-piece-clause-fault : goal.returns-in_err-piece-clause-fault
-returns-in_err-piece-clause-fault g c =
+pub returns-in_err-next-clause-fault : goal.returns-in_err-next-clause-fault
+returns-in_err-next-clause-fault g c =
     let exit = err_from_is_err_and c.from_residual.result c.from_residual.ensures.1 in
-    let e = c.in_err-piece.field-0.0 in
-    rw (exit.1, exit.2)
-    (λ text whole before is own. stops_for_resource g.P.Pass g.P.Pass.stops_for_memory c.args.pass.now whole before e (c.in_err-piece.ensures.fault text whole before is own))
+    rw (exit.1, exit.2) (λ text whole before is own. c.in_err-next.ensures.known text whole before own.torn is own.reads own.is_mark)
 
-pub returns-in_err-take-clause-fault : goal.returns-in_err-take-clause-fault
-returns-in_err-take-clause-fault g c =
-    let exit = err_from_is_err_and c.from_residual-in_err-take.result c.from_residual-in_err-take.ensures.1 in
-    rw (exit.1, exit.2)
-    (λ text whole before is own.
-    let next = c.in_ok-piece.ensures.next text before is own.is_mark in
-    c.in_err-take.ensures.fault whole before (next.is_piece whole own.torn own.reads) (goes_on_at text before c.in_ok-piece.piece c.args.mark own.is_mark c.in_ok-piece.ensures.base))
+pub returns-then-next-mark-clause-fault : goal.returns-then-next-mark-clause-fault
+returns-then-next-mark-clause-fault g c = λ text whole before is own.
+    let rises = c.in_ok-next.ensures.rises in
+    let later = c.in_ok-next.ensures.passed text before is own.is_mark in
+    let within = (mark_within text whole later.0 own.torn c.in_ok-next.next own.reads later.1).1 in
+    absurd
+    (elim c.then-next-mark.branch [
+      | then-next-mark-via-then-next-mark w ↦
+          one_more text whole before c.args.mark c.args.end c.in_ok-next.field-0-1 own (c.in_ok-next.ensures.ends text before is own.is_mark (omega (arith, w.if-next-mark.true, rises)))
+      | then-next-mark-via-else-next-mark+then-end-next w ↦ omega (arith, w.if-end-next.true, within, own.is_end)
+    ])
 
-pub returns-clause-ready : goal.returns-clause-ready
-returns-clause-ready g c = subst (g.P.Pass.is_ready c.take.new.self) c.in_ok-piece.ensures.last c.in_ok-take.ensures.ready
-
-pub returns-clause-passed : goal.returns-clause-passed
-returns-clause-passed g c = λ text before is mark.
-    let piece = c.in_ok-piece.piece in
-    let next = c.in_ok-piece.ensures.next text before is mark in (
-      before ⧺ piece.records,
-      next.is_next,
-      λ whole torn reads. c.in_ok-take.ensures.passed whole before (next.is_piece whole torn reads) (goes_on_at text before piece c.args.mark mark c.in_ok-piece.ensures.base),
-    )
+pub returns-then-next-gt-LARGEST_BASE-clause-fault : goal.returns-then-next-gt-LARGEST_BASE-clause-fault
+returns-then-next-gt-LARGEST_BASE-clause-fault g c = λ text whole before is own. g.P.Pass.stops_for_memory c.args.pass.now whole before

@@ -1,7 +1,8 @@
 use Rattle.std.proofs.Common.{◌∙◌, get_or, ap, inl, inr, arith}
 use Rattle.log_laws.specs.Records.{history, base_lsn, last_lsn}
 use Rattle.pieces.specs.declared.mark.Mark.{Mark}
-use Rattle.passes.proofs.Redoing.{mark_within, before_redo}
+use Rattle.passes.proofs.ReadForward.{mark_within}
+use Rattle.passes.proofs.Redoing.{before_redo}
 use Rattle.passes.proofs.repeat.mark_to_begin.Goals as goal
 
 pub returns-clause-before : goal.returns-clause-before

@@ -7,7 +7,8 @@ use Rattle.pieces.specs.declared.mark.Mark.{Mark}
 use Rattle.passes.specs.Redoing.{RedoCause}
 use Rattle.passes.specs.contracts.repeat.TallyScanPass.TheImpl.{ghosts}
 use Rattle.passes.proofs.Passes.{stops_as}
-use Rattle.passes.proofs.Redoing.{mark_within, tallied_from}
+use Rattle.passes.proofs.ReadForward.{mark_within}
+use Rattle.passes.proofs.Redoing.{tallied_from}
 use Rattle.passes.proofs.repeat.tally_in_pieces.Goals as goal
 
 pub returns-in_err-pass_to_end-clause-fault : goal.returns-in_err-pass_to_end-clause-fault

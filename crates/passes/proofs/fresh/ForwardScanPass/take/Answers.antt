@@ -1,16 +1,15 @@
 use Rattle.std.proofs.Common.{sym, subst}
 use Rattle.log_laws.specs.Records.{history}
+use Rattle.log_laws.proofs.Histories.{history_push}
 use Rattle.analysis.specs.Passing.{HasAnalysed}
 use Rattle.passes.specs.Listing.{IsTalliedTo}
-use Rattle.passes.proofs.Calls.{on_ok_both}
-use Rattle.passes.proofs.ReadForward.{with_piece, ends_with_piece}
+use Rattle.passes.specs.Pieces.{one_record}
+use Rattle.passes.proofs.OneByOne.{ends_one_later, seen_behind}
 use Rattle.passes.proofs.fresh.ForwardScanPass.take.Goals as goal
 
 pub returns-clause-passed : goal.returns-clause-passed
-returns-clause-passed c = on_ok_both c.scan_piece.result
-    (λ analysed tallied whole before own at. (
-      λ all seen. subst (λ h. HasAnalysed 0 all h c.scan_piece.new.scan.tables) (with_piece before c.args.piece.now) (analysed all (history before) at seen),
-      λ images so_far. subst (λ n. IsTalliedTo whole images n c.scan_piece.new.scan) (sym (ends_with_piece before c.args.piece.now at))
-          (tallied whole images own (subst (λ n. IsTalliedTo whole images n c.args.self.now) at so_far)),
-    ))
-    c.scan_piece.ensures.analysed c.scan_piece.ensures.tallied
+returns-clause-passed c = λ r next whole before own at. (
+  λ all seen. subst (λ h. HasAnalysed 0 all h c.take.new.self) (sym (history_push before r)) (c.in_ok-take.ensures.goes_on all (history before) r next.seen_of next.fits at seen),
+  λ images so_far. subst (λ n. IsTalliedTo whole images n c.self-new) (sym (ends_one_later before c.args.lsn r at))
+      (c.tally_next.ensures.tallied whole (one_record c.args.lsn r) images own (seen_behind c.args.lsn c.args.glance c.args.body.now r next) (subst (λ n. IsTalliedTo whole images n c.args.self.now) at so_far)),
+)
