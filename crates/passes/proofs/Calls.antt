@@ -30,11 +30,6 @@ reads_on {text = text} {read_to = read_to} {old = old} {now = now} {new = new} b
   counted = more.counted ∙ before.counted;
 }
 
--- A ROOM that takes each frame is never too small
-pub room_enough : (text : List ℕ) (mark : Mark) (room : ℕ) (e : PassFault) → IsRoom room → PieceFails text mark room e → LogCause text e
-room_enough text mark room e is (inl cause) = cause
-room_enough text mark room e is (inr (short, _)) = absurd (omega (arith, short, is.takes))
-
 -- WHAT FOLLOWS from two facts about a success
 pub on_ok_both : {T E P Q R : Type 0} (result : Result T E) → (P → Q → R) → OnOk result P → OnOk result Q → OnOk result R
 on_ok_both (Ok x) both p q = both p q

@@ -1,5 +1,5 @@
 -- The tallies with one more record.
-use Rattle.std.proofs.Common.{◌≡◌, ℕ, ◌+◌, ◌-◌, ◌<◌, ◌≤◌, ◌⊎◌, List, Some, length, inl, inr, ap, sym, ◌∙◌, subst, arith}
+use Rattle.std.proofs.Common.{◌≡◌, ℕ, ◌+◌, ◌≤◌, List, Some, length, inl, inr, ap, sym, ◌∙◌, subst, arith}
 use Rattle.std.proofs.lemmas.Bool.{cases_eq}
 use Rattle.std.proofs.lemmas.Option.{same_Some}
 use Rattle.page.specs.declared.fault.Fault.{Fault}
@@ -7,61 +7,25 @@ use Rattle.page.specs.declared.page.Page.{Page}
 use Rattle.wal.specs.declared.glance.Glance.{Glance}
 use Rattle.wal.specs.Glances.{glance_of, IsGlanceBehind}
 use Rattle.log_laws.specs.Records.{LogRecord, LogContent, history, base_lsn, record_at}
-use Rattle.log_laws.proofs.Histories.{record_above}
 use Rattle.tables.specs.Pieces.{IsPieceOf}
+use Rattle.tables.specs.Tables.{TablesContent}
 use Rattle.redo.specs.Inputs.{InputContent, input_over}
 use Rattle.redo.specs.Changes.{NamesBelow}
 use Rattle.redo.specs.Routes.{NoteFault}
 use Rattle.redo.specs.OnePass.{AreUpTo}
 use Rattle.redo.specs.Passing.{TalliesSoFar, IsPieceFor, IsRecordFor}
-use Rattle.redo.proofs.OneMore.{record_of_piece, counted_behind, exist_with, refused_at}
-use Rattle.tables.specs.Tables.{TablesContent}
-use Rattle.redo.specs.Redone.{IsLookedAt, ExistBelow, RedoFault}
+use Rattle.redo.specs.Redone.{IsLookedAt, RedoFault}
+use Rattle.redo.proofs.OneMore.{record_of_piece, refused_at}
 use Rattle.passes.specs.Listing.{AreTalliedByAll}
 use Rattle.passes.specs.Redoing.{AreTalliedUpTo}
 
-module _ (whole piece : LogContent) (images : List Page) (lsn : ℕ) (glance : Glance) (old : TalliesSoFar) (own : IsPieceOf (history whole) (history piece)) (seen : IsGlanceBehind (history piece) lsn glance) (before : AreTalliedByAll whole images lsn old) where
-  abbrev input : InputContent
-  input = input_over whole images before.listed
-
-  is_piece : IsPieceFor input old.redo_lsn piece
-  is_piece = record { numbered = before.tallied.numbered; from = before.tallied.from; piece_of = own }
-
-  is_next : IsRecordFor input old.redo_lsn (lsn + 1) glance
-  is_next = record_of_piece input old.redo_lsn lsn glance piece is_piece seen
-
-  -- counted for its page, if it has one
-  pub tallied_next : (new : TalliesSoFar) → new.redo_lsn ≡ old.redo_lsn → new.upto ≡ lsn + 1
-      → ((any : InputContent) → IsRecordFor any old.redo_lsn (lsn + 1) glance → AreUpTo any (lsn + 1 - 1) old.tallies → AreUpTo any (lsn + 1) new.tallies)
-      → ((r : LogRecord) → glance ≡ glance_of r → NamesBelow (length old.tallies) r) → AreTalliedByAll whole images (lsn + 1) new
-  tallied_next new same upto goes_on exists = record {
-    listed = before.listed;
-    each = before.each;
-    tallied = record {
-      numbered = before.tallied.numbered;
-      from = before.tallied.from ∙ sym same;
-      upto = omega (arith, upto);
-      tallied = counted_behind input old.redo_lsn lsn glance piece is_piece seen old.tallies new.tallies goes_on before.tallied.tallied;
-      exist = exist_with whole (length images) before.listed.redo_lsn (lsn + 1) is_next.entry is_next.there before.tallied.exist
-          (subst (λ n. NamesBelow n is_next.entry) before.tallied.tallied.count (exists is_next.entry is_next.seen_of));
-    };
-  }
-
-  -- on a page that the store lacks, or refused
-  pub refused_next : (e : Fault) → ((r : LogRecord) → glance ≡ glance_of r → NoteFault (length old.tallies) (lsn + 1) r e) → RedoFault whole (length images) (base_lsn (history whole) + 1) 1 e
-  refused_next e cause =
-      let above = record_above (history whole) (lsn + 1) is_next.entry is_next.there in
-      let begins = before.each.begins in
-      subst (λ n. RedoFault whole (length images) n 1 e) begins
-      (refused_at whole (length images) before.listed.redo_lsn (lsn + 1) is_next.entry is_next.there before.tallied.exist e ((λ zero. omega (arith, begins, zero)), omega (arith, begins, above))
-      (subst (λ n. NoteFault n (lsn + 1) is_next.entry e) before.tallied.tallied.count (cause is_next.entry is_next.seen_of)))
-
--- BY TABLES: the record after an LSN, if redo looks at it
-module _ (whole : LogContent) (images : List Page) (tables : TablesContent) (lsn : ℕ) (glance : Glance) (r : LogRecord) (old new : TalliesSoFar) (there : record_at (history whole) (lsn + 1) ≡ Some r) (seen : glance ≡ glance_of r) where
-  pub taken_next : new.redo_lsn ≡ old.redo_lsn → new.upto ≤ lsn + 1 → AreTalliedUpTo whole images tables lsn old
+-- BY TABLES: the record after an LSN is counted for its page, if redo looks at it and the page lacks it
+module _ (whole : LogContent) (images : List Page) (tables : TablesContent) (lsn : ℕ) (glance : Glance) (r : LogRecord) (old : TalliesSoFar) (there : record_at (history whole) (lsn + 1) ≡ Some r) (seen : glance ≡ glance_of r)
+    (before : AreTalliedUpTo whole images tables lsn old) where
+  pub taken_next : (new : TalliesSoFar) → new.redo_lsn ≡ old.redo_lsn → new.upto ≤ lsn + 1
       → ((input : InputContent) → IsRecordFor input old.redo_lsn (lsn + 1) glance → AreUpTo input lsn old.tallies → AreUpTo input (lsn + 1) new.tallies)
       → ((x : LogRecord) → glance ≡ glance_of x → IsLookedAt old.redo_lsn (lsn + 1) → NamesBelow (length old.tallies) x) → AreTalliedUpTo whole images tables (lsn + 1) new
-  taken_next same upto before goes_on exists = record {
+  taken_next new same upto goes_on exists = record {
     numbered = before.numbered;
     from = before.from ∙ sym same;
     upto = upto;
@@ -76,9 +40,33 @@ module _ (whole : LogContent) (images : List Page) (tables : TablesContent) (lsn
         ];
   }
 
--- or refused
-pub stopped_next : (whole : LogContent) (images : List Page) (tables : TablesContent) (lsn : ℕ) (r : LogRecord) (old : TalliesSoFar) (e : Fault) → record_at (history whole) (lsn + 1) ≡ Some r → AreTalliedUpTo whole images tables lsn old
-    → IsLookedAt old.redo_lsn (lsn + 1) → NoteFault (length old.tallies) (lsn + 1) r e → RedoFault whole (length images) tables.redo_lsn 1 e
-stopped_next whole images tables lsn r old e there before looked cause =
-    refused_at whole (length images) tables.redo_lsn (lsn + 1) r there before.exist e (subst (λ n. IsLookedAt n (lsn + 1)) (sym before.from) looked)
-    (subst (λ n. NoteFault n (lsn + 1) r e) before.tallied.count cause)
+  -- it is on a page that the store lacks, or refused
+  pub stopped_next : (e : Fault) → IsLookedAt old.redo_lsn (lsn + 1) × ((x : LogRecord) → glance ≡ glance_of x → NoteFault (length old.tallies) (lsn + 1) x e) → RedoFault whole (length images) tables.redo_lsn 1 e
+  stopped_next e cause =
+      refused_at whole (length images) tables.redo_lsn (lsn + 1) r there before.exist e (subst (λ n. IsLookedAt n (lsn + 1)) (sym before.from) cause.0)
+      (subst (λ n. NoteFault n (lsn + 1) r e) before.tallied.count (cause.1 r seen))
+
+-- BY TABLES THAT LIST EACH PAGE
+module _ (whole piece : LogContent) (images : List Page) (lsn : ℕ) (glance : Glance) (old : TalliesSoFar) (own : IsPieceOf (history whole) (history piece)) (seen : IsGlanceBehind (history piece) lsn glance) (before : AreTalliedByAll whole images lsn old) where
+  abbrev input : InputContent
+  input = input_over whole images before.listed
+
+  is_piece : IsPieceFor input old.redo_lsn piece
+  is_piece = record { numbered = before.tallied.numbered; from = before.tallied.from; piece_of = own }
+
+  is_next : IsRecordFor input old.redo_lsn (lsn + 1) glance
+  is_next = record_of_piece input old.redo_lsn lsn glance piece is_piece seen
+
+  pub tallied_next : (new : TalliesSoFar) → new.redo_lsn ≡ old.redo_lsn → new.upto ≤ lsn + 1
+      → ((any : InputContent) → IsRecordFor any old.redo_lsn (lsn + 1) glance → AreUpTo any lsn old.tallies → AreUpTo any (lsn + 1) new.tallies)
+      → ((x : LogRecord) → glance ≡ glance_of x → IsLookedAt old.redo_lsn (lsn + 1) → NamesBelow (length old.tallies) x) → AreTalliedByAll whole images (lsn + 1) new
+  tallied_next new same upto goes_on exists = record {
+    listed = before.listed;
+    each = before.each;
+    tallied = taken_next whole images before.listed lsn glance is_next.entry old is_next.there is_next.seen_of before.tallied new same upto goes_on exists;
+  }
+
+  pub refused_next : (e : Fault) → IsLookedAt old.redo_lsn (lsn + 1) × ((x : LogRecord) → glance ≡ glance_of x → NoteFault (length old.tallies) (lsn + 1) x e) → RedoFault whole (length images) (base_lsn (history whole) + 1) 1 e
+  refused_next e cause =
+      subst (λ n. RedoFault whole (length images) n 1 e) before.each.begins
+      (stopped_next whole images before.listed lsn glance is_next.entry old is_next.there is_next.seen_of before.tallied e cause)

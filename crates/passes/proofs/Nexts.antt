@@ -90,15 +90,6 @@ pub log_alone : (text : List ℕ) (whole : LogContent) (torn : ℕ) → Reads te
 log_alone text whole torn reads fault.Failed cause = inl refl
 log_alone text whole torn reads (fault.Fault e) cause = inr (ap (λ x. fault.Fault x) (no_fault_of_a_log text whole torn reads e cause))
 
--- the next mark is not before this one, and not after the log's end
-pub next_rises : (text : List ℕ) (before : LogContent) (mark next : Mark) (piece : LogContent) → IsMark text before mark → ComesNext text before next piece → mark.lsn ≤ next.lsn
-next_rises text before mark next piece is comes =
-    omega (arith, is.lsn, comes.is_next.lsn, size_of_log before, size_of_log (before ⧺ piece.records), length-append before.records piece.records)
-
-pub next_within : (text : List ℕ) (whole before : LogContent) (torn : ℕ) (mark next : Mark) (piece : LogContent) → Reads text whole torn → last_lsn (history piece) ≡ next.lsn → ComesNext text before next piece
-    → next.lsn ≤ last_lsn (history whole)
-next_within text whole before torn mark next piece reads last comes = omega (arith, (comes.is_piece whole torn reads).high, last)
-
 -- a lack of memory is an error of any analysis
 pub memory_cause : (master : ℕ) (whole : LogContent) (e : Fault) → e ≡ NoResource → TablesCause master whole (fault.Fault e)
 memory_cause master whole e none = subst (λ x. TablesCause master whole (fault.Fault x)) (sym none) tt

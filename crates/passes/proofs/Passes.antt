@@ -39,11 +39,6 @@ module _ {P : Type 0} (pass : Pass P) where
   stops_on later old now whole before between fault.Failed passed stops = tt
   stops_on later old now whole before between (fault.Fault e) passed stops = later old now whole before between e passed stops
 
-  -- at the first reading, one of the bytes comes first
-  pub first_from_log : (text : List ℕ) (e : PassFault) → LogCause text e → StopsFirst pass text e
-  first_from_log text fault.Failed cause = tt
-  first_from_log text (fault.Fault e) cause = inl cause
-
   -- and if only a lack of memory stops the pass, there is no other
   pub log_from_first : ((e : Fault) → pass.may_stop e → e ≡ NoResource) → (text : List ℕ) (e : PassFault) → StopsFirst pass text e → LogCause text e
   log_from_first alone text fault.Failed stops = tt

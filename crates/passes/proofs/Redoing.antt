@@ -1,5 +1,5 @@
 -- Redo by a log that is read in pieces.
-use Rattle.std.proofs.Common.{◌≡◌, ℕ, zero, suc, ◌+◌, ◌-◌, ◌<◌, ◌≤◌, ◌⊎◌, List, All, length, drop, get_or, refl, sym, ap, ◌∙◌, subst, inl, inr, arith, length-append}
+use Rattle.std.proofs.Common.{◌≡◌, ℕ, zero, suc, ◌+◌, ◌-◌, ◌<◌, ◌≤◌, ◌⊎◌, List, All, length, drop, get_or, refl, sym, ap, ◌∙◌, subst, inl, inr, arith}
 use Rattle.std.proofs.lemmas.Bool.{cases_lt}
 use Rattle.std.proofs.lemmas.List.{get_or-drop, get_or_default, length-drop}
 use Rattle.std.specs.List.Sorted.{IsNonDecreasingBy}
@@ -7,9 +7,9 @@ use Rattle.page.specs.declared.fault.Fault.{Fault}
 use Rattle.page.specs.declared.fault.Fault.TheVariants.{NoResource, NoSuchPage}
 use Rattle.page.specs.declared.page.Page.{Page}
 use Rattle.page.specs.Store.{AreNumbered}
-use Rattle.log_laws.specs.Records.{LogContent, lsn_before, start, history, last_lsn, base_lsn}
+use Rattle.log_laws.specs.Records.{LogContent, start, history, last_lsn, base_lsn}
 use Rattle.wal.specs.Reads.{Reads}
-use Rattle.log_laws.proofs.Histories.{base_of_log, size_of_log, first_at_base, record_above, record_within}
+use Rattle.log_laws.proofs.Histories.{first_at_base, record_above, record_within}
 use Rattle.tables.specs.Tables.{TablesContent}
 use Rattle.tables.specs.Pieces.{IsPieceOf}
 use Rattle.pieces.specs.declared.mark.Mark.{Mark}
@@ -26,6 +26,7 @@ use Rattle.redo.proofs.LastRecords.{in_slot}
 use Rattle.redo.proofs.Stretches.{skipped_some}
 use Rattle.redo.proofs.Replay.{skips_none}
 use Rattle.redo.proofs.Passing.{exist_gone, missing_gone}
+use Rattle.passes.proofs.ReadForward.{mark_within}
 use Rattle.passes.specs.declared.fault.PassFault.{PassFault}
 use Rattle.passes.specs.Calls.{IsRoom}
 use Rattle.passes.specs.Marks.{IsResource, AreMarks, AreInReach, Reaches}
@@ -75,24 +76,6 @@ tallied_from text whole before torn images tables base from scan numbered reads 
     subst (λ n. AreTalliedUpTo whole images tables n scan) own.lsn
     (tallied_first whole images tables base from.lsn scan numbered redo_lsn (omega (arith, upto, at, within.0)) at within.1 skips up)
 
--- ONE MORE PIECE
-pub tallied_more : (whole piece : LogContent) (images : List Page) (tables : TablesContent) (mark next : ℕ) (old new : TalliesSoFar) → IsPieceOf (history whole) (history piece) → base_lsn (history piece) ≡ mark → last_lsn (history piece) ≡ next
-    → new.redo_lsn ≡ old.redo_lsn → new.upto ≡ next
-    → ((input : InputContent) → IsPieceFor input old.redo_lsn piece → AreUpTo input (base_lsn (history piece)) old.tallies → AreUpTo input (last_lsn (history piece)) new.tallies)
-    → AllExist piece (length old.tallies) old.redo_lsn → AreTalliedUpTo whole images tables mark old → AreTalliedUpTo whole images tables next new
-tallied_more whole piece images tables mark next old new own base last same upto goes_on exist before =
-    let input : InputContent = input_over whole images tables in
-    record {
-      numbered = before.numbered;
-      from = before.from ∙ sym same;
-      upto = omega (arith, upto);
-      tallied = subst (λ n. AreUpTo input n new.tallies) last
-          (goes_on input (record { numbered = before.numbered; from = before.from; piece_of = own }) (subst (λ n. AreUpTo input n old.tallies) (sym base) before.tallied));
-      exist = subst (λ n. ExistBelow whole (length images) tables.redo_lsn (n + 1)) last
-          (exist_gone whole piece (length images) tables.redo_lsn own (subst (λ n. ExistBelow whole (length images) tables.redo_lsn (n + 1)) (sym base) before.exist)
-          (subst (λ n. AllExist piece n tables.redo_lsn) before.tallied.count (subst (AllExist piece (length old.tallies)) (sym before.from) exist)));
-    }
-
 -- at the end of the log
 pub exist_all : (whole : LogContent) (count redo_lsn : ℕ) → ExistBelow whole count redo_lsn (last_lsn (history whole) + 1) → AllExist whole count redo_lsn
 exist_all whole count redo_lsn below lsn r looked found = below lsn r looked (omega (arith, record_within (history whole) lsn r found)) found
@@ -101,12 +84,6 @@ exist_all whole count redo_lsn below lsn r looked found = below lsn r looked (om
 pub resource_cause : (whole : LogContent) (count redo_lsn : ℕ) (e : PassFault) → IsResource e → RedoCause whole count redo_lsn e
 resource_cause whole count redo_lsn e (inl failed) = subst (RedoCause whole count redo_lsn) (sym failed) tt
 resource_cause whole count redo_lsn e (inr refused) = subst (RedoCause whole count redo_lsn) (sym refused) tt
-
-pub pass_cause : (whole piece : LogContent) (count redo_lsn : ℕ) (e : Fault) → IsPieceOf (history whole) (history piece) → ExistBelow whole count redo_lsn (base_lsn (history piece) + 1) → PassCause piece count redo_lsn e
-    → RedoFault whole count redo_lsn 1 e
-pass_cause whole piece count redo_lsn NoResource own before cause = tt
-pass_cause whole piece count redo_lsn (NoSuchPage lsn) own before cause = ((omega arith, omega arith), missing_gone whole piece count redo_lsn lsn own before cause)
-pass_cause whole piece count redo_lsn e own before cause = absurd cause
 
 -- FETCHING
 -- the piece after the last mark before a record reaches the record, if the room is in reach

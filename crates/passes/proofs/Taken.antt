@@ -1,12 +1,11 @@
 -- A piece whose frames are read while a pass takes their records: what was taken so far.
-use Rattle.std.proofs.Common.{◌≡◌, ℕ, ◌+◌, ◌-◌, ◌^◌, ◌<◌, ◌≤◌, List, [], ◌∷◌, ◌++◌, length, take, drop, Some, None, Ok, Err, Result, Option, refl, sym, ap, ap₂, subst, ◌∙◌, arith, inl, inr, length-append}
+use Rattle.std.proofs.Common.{◌≡◌, ℕ, ◌+◌, ◌-◌, ◌^◌, ◌<◌, ◌≤◌, List, [], ◌∷◌, ◌++◌, length, take, drop, Some, None, Ok, Err, Result, Option, refl, sym, ap, ap₂, subst, ◌∙◌, arith, length-append}
 use Rattle.std.proofs.lemmas.List.{append-nil, length-drop, take-append-drop}
 use Rattle.page.proofs.BigEndian.{AreBytes}
 use Rattle.page.specs.declared.fault.Fault.{Fault}
 use Rattle.page.specs.declared.fault.Fault.TheVariants.{NoResource}
-use Rattle.log_laws.specs.declared.start.LogStart.{LogStart}
 use Rattle.log_laws.specs.declared.start.LogStart.TheVariants.{Version2}
-use Rattle.log_laws.specs.Records.{LogRecord, lsn_before, LogContent, history, last_lsn, ◌⧺◌}
+use Rattle.log_laws.specs.Records.{LogRecord, LogContent, history, last_lsn, ◌⧺◌}
 use Rattle.wal.specs.declared.glance.Glance.{Glance}
 use Rattle.wal.specs.declared.stretch.Stretch.{Stretch}
 use Rattle.wal.specs.declared.sizes.TheConstants.{BASED_HEADER_BYTES, LARGEST_BASE}

@@ -13,16 +13,7 @@ use Rattle.passes.specs.declared.fault.PassFault.TheVariants as fault
 use Rattle.passes.specs.Marks.{IsResource, LogCause}
 use Rattle.passes.specs.Calls.{ForMark, ForLogAt}
 
--- The records of the piece come next in the bytes, and the next mark is after them.
-pub record ComesNext (text : List ℕ) (before : LogContent) (next : Mark) (piece : LogContent) : Type 0 where
-  pub is_next : IsMark text (before ⧺ piece.records) next
-  pub is_piece : (whole : LogContent) (torn : ℕ) → Reads text whole torn → IsPieceOf (history whole) (history piece)
-
 -- OF THE BYTES THAT A DEVICE HOLDS
--- they come after a mark
-abbrev pub ComesAfter : (held : Option (List ℕ)) → (mark next : Mark) → (piece : LogContent) → Type 0
-ComesAfter held mark next piece = ForMark held mark (λ text before. ComesNext text before next piece)
-
 -- the piece is one of the log
 abbrev pub IsPieceAfter : (held : Option (List ℕ)) → Mark → (piece : LogContent) → Type 0
 IsPieceAfter held mark piece = ForLogAt held mark (λ whole. IsPieceOf (history whole) (history piece))
@@ -36,13 +27,6 @@ pub record ReadsToNext {D : Type 0} (text : D → Option (List ℕ)) (read_to : 
   pub reaches : ReachesMark (text old) (read_to old) mark → ReachesMark (text old) (read_to new) next
   pub end : next.lsn ≡ mark.lsn → ReadsRest text read_to old new mark.offset
 
--- why no piece of them is read into a room of this size: a fault of the bytes, or the next frame does not fit in the room
-abbrev pub PieceFails : (text : List ℕ) → Mark → (room : ℕ) → PassFault → Type 0
-PieceFails text mark room e = LogCause text e ⊎ ((room < BASED_HEADER_BYTES + LONGEST_FRAME) × (e ≡ fault.Fault (BadLength mark.offset)))
-
-abbrev pub PieceCause : (held : Option (List ℕ)) → Mark → (room : ℕ) → PassFault → Type 0
-PieceCause held mark room e = ForMark held mark (λ text before. PieceFails text mark room e)
-
 -- A mark before the last record of the bytes. This is the LSN of that record.
 pub record IsBefore (text : List ℕ) (whole before : LogContent) (mark : Mark) (end : ℕ) : Type 0 where
   pub torn : ℕ
@@ -51,10 +35,3 @@ pub record IsBefore (text : List ℕ) (whole before : LogContent) (mark : Mark) 
   pub is_mark : IsMark text before mark
   pub is_before : mark.lsn < end
 
--- P is true of the log that a device holds, if the mark is such a one
-abbrev pub ForBefore : (held : Option (List ℕ)) → Mark → (end : ℕ) → (LogContent → Type 0) → Type 0
-ForBefore held mark end P = (text : List ℕ) (whole before : LogContent) → held ≡ Some text → IsBefore text whole before mark end → P whole
-
--- a device or memory, and nothing else, stops a call that reads on from there
-abbrev pub IsResourceBefore : (held : Option (List ℕ)) → Mark → (end : ℕ) → PassFault → Type 0
-IsResourceBefore held mark end e = ForBefore held mark end (λ whole. IsResource e)

@@ -76,7 +76,7 @@ fn tally_next(
     if fault.is_some() {
         return fault;
     }
-    match tallies.note(glance, lsn + 1) {
+    match tallies.take(lsn, glance) {
         Ok(()) => None,
         Err(fault) => Some(fault),
     }

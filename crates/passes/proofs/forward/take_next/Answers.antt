@@ -1,10 +1,10 @@
-use Rattle.std.proofs.Common.{◌+◌, ◌-◌, ◌≤◌, length, take, ap₂, refl, sym, subst, ◌∙◌, ◌⊎◌, inl, inr, arith, take-take}
+use Rattle.std.proofs.Common.{◌+◌, ◌-◌, ◌≤◌, length, take, ap₂, sym, subst, ◌∙◌, inl, inr, arith, take-take}
 use Rattle.std.proofs.lemmas.Bool.{cases_lt}
 use Rattle.std.proofs.lemmas.Result.{err_from_is_err_and}
 use Rattle.log_laws.specs.Records.{◌⧺◌}
 use Rattle.device.proofs.Reach.{reach_on, reach_below, read_all}
 use Rattle.wal.specs.Reads.{Cause}
-use Rattle.wal.specs.declared.sizes.TheConstants.{BASED_HEADER_BYTES, LONGEST_FRAME}
+use Rattle.wal.specs.declared.sizes.TheConstants.{BASED_HEADER_BYTES}
 use Rattle.wal.proofs.Causes.{no_fault_of_a_log}
 use Rattle.pieces.specs.Pieces.{IsMark}
 use Rattle.pieces.proofs.Pieces.{cause_in}

@@ -1,4 +1,4 @@
-use Rattle.std.proofs.Common.{◌-◌, length, take, Ok, ap, subst, sym, ◌∙◌, inl, inr, arith}
+use Rattle.std.proofs.Common.{◌-◌, take, Ok, ap, sym, ◌∙◌, inl, inr, arith}
 use Rattle.std.proofs.lemmas.Result.{err_from_is_err_and}
 use Rattle.pieces.proofs.Pieces.{cause_within}
 use Rattle.passes.proofs.Taken.{has_next, sized, stops_there, taken_all, taken_cause, taken_more, taken_none}
