@@ -1,9 +1,9 @@
 -- The tables of a checkpoint in a log that goes by in pieces.
-use Rattle.std.proofs.Common.{ℕ, suc, ◌≡◌, ◌≤◌, ◌<◌, ◌+◌, Bool, true, false, ◌||◌, cond, eqb, eq-eqb, leb, ltb, ◌&&◌, List, [], ◌∷◌, Option, Some, None, refl, sym, ap, ap₂, ◌∙◌, arith, inl, inr, max}
-use Rattle.std.proofs.lemmas.Bool.{cases_Bool, cases_eq, ltb-true, ltb-false, le-leb}
-use Rattle.log_laws.specs.Records.{TableEntry, LogRecord, CheckpointEnd, History, start, ◌▸◌, ◌▸▸◌, LogContent, history, last_lsn, base_lsn, record_at, first}
+use Rattle.std.proofs.Common.{ℕ, suc, ◌≡◌, Bool, true, false, ◌||◌, cond, eqb, leb, ltb, ◌&&◌, List, [], ◌∷◌, Option, Some, None, refl, sym, ap, ap₂, ◌∙◌, arith, inl, inr}
+use Rattle.std.proofs.lemmas.Bool.{cases_Bool, cases_eq, ltb-true, ltb-false}
+use Rattle.log_laws.specs.Records.{TableEntry, LogRecord, CheckpointEnd, History, start, ◌▸◌, ◌▸▸◌, LogContent, history, last_lsn, base_lsn, record_at}
 use Rattle.log_laws.specs.Checkpoint.{or_else, first_end, is_begin, checkpoint_at}
-use Rattle.log_laws.proofs.Histories.{base_of_log, base_after, record_in_front, record_none, size_of_first, size_of_first_le, first_base}
+use Rattle.log_laws.proofs.Histories.{base_of_log, base_after, record_in_front, record_none}
 use Rattle.log_laws.proofs.Checkpoints.{first_end_none, first_end_after, begin_above, checkpoint_begins, checkpoint_ends, checkpoint_there, checkpoint_within}
 use Rattle.analysis.specs.Tables.{base_of}
 use Rattle.analysis.proofs.Scanned.{or_else-assoc}
@@ -95,29 +95,3 @@ met m log piece was begins at none before now =
         → cond b (first_end m (log ▸▸ piece.records)) None ≡ cond b (first_end m (history piece)) None
     by_met true e goes_on = end_behind m log piece.records (no_end m log (history piece) at none (sym e)) ∙ ap (first_end m) goes_on
     by_met false e goes_on = refl
-
--- THE END IN A PIECE
-pub no_end_at_first : (m from : ℕ) (log : History) → from ≡ max m (base_lsn log) → first_end m (first from log) ≡ None
-no_end_at_first m from log is =
-    elim (cases_Bool (ltb (base_lsn log) m)) [
-      | inl i ↦ first_end_none m (first from log) (omega (arith, is, ltb-true (base_lsn log) m i, size_of_first_le from log (omega (arith, is))))
-      | inr i ↦ ap (first_end m) (first_base log from (omega (arith, is, ltb-false (base_lsn log) m i)))
-    ]
-
--- one that is found up to an LSN is the first of the log
-first_end_before : (m lsn : ℕ) (log : History) (x : Both) → first_end m (first lsn log) ≡ Some x → first_end m log ≡ Some x
-first_end_before m lsn (start _) x e = e
-first_end_before m lsn (log ▸ r) x e =
-    elim (cases_Bool (ltb (last_lsn log) lsn)) [
-      | inl i ↦ sym (ap (λ b. first_end m (cond b (log ▸ r) (first lsn log))) i) ∙ e
-      | inr i ↦ first_end_after m log (r ∷ []) x (first_end_before m lsn log x (sym (ap (λ b. first_end m (cond b (log ▸ r) (first lsn log))) i) ∙ e))
-    ]
-
-pub end_met : (log : History) (m lsn begin : ℕ) (ts : List TableEntry) (d : List (ℕ × ℕ)) → base_lsn log ≤ lsn → lsn < last_lsn log → m ≤ lsn → begin ≡ m → first_end m (first lsn log) ≡ None
-    → first (lsn + 1) log ≡ first lsn log ▸ CheckpointEnd begin ts d → Some (ts, d) ≡ first_end m log
-end_met log m lsn begin ts d from lt le own none next =
-    let n : last_lsn (first lsn log) ≡ lsn = size_of_first lsn log from (omega arith) in
-    let named : eqb begin m ≡ true = eq-eqb begin m own in
-    let behind : leb m (last_lsn (first lsn log)) ≡ true = le-leb _ _ (omega (arith, n, le)) in
-    let here : first_end m (first (lsn + 1) log) ≡ Some (ts, d) = ap (first_end m) next ∙ (rw (none, named, behind) refl) in
-    sym (first_end_before m (lsn + 1) log (ts, d) here)

@@ -1,4 +1,5 @@
--- PASSING. Analysis of a log that is read in pieces: each piece is a log, whose base LSN is the last LSN of what was read before it (own).
+-- PASSING. Analysis of a log that is read record after record, or in pieces: each piece is a log, whose base LSN is the last LSN of what
+-- was read before it (own).
 use Rattle.std.specs.Prelude.{◌≡◌, ◌≤◌, ◌⊎◌, ℕ, Bool, List, Option, Some, None, IfSome}
 use Rattle.wal.specs.declared.record.Entry.{Entry}
 use Rattle.log_laws.specs.Records.{TableEntry, LogRecord, History, start, ◌▸▸◌, last_lsn, base_lsn, record_at}

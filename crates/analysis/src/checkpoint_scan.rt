@@ -1,8 +1,9 @@
 //! The tables of the checkpoint that the master names, found while a log is read.
 
-ghost use Rattle.std.specs.Prelude.{◌≡◌, ◌||◌, ℕ, Some, None, option_map, is_some, IfOk, IfErr, IfSome, IfNone, OnOk, IsOkUnless};
+ghost use Rattle.std.specs.Prelude.{◌≡◌, ◌≤◌, ◌<◌, ◌+◌, ◌^◌, ℕ, Some, None, is_some, IfOk, IfErr, IfSome, IfNone, OnOk, IsOkUnless};
 ghost use Rattle.page.specs.declared.fault.Fault.TheVariants.{NoResource, BadMaster};
-ghost use Rattle.log_laws.specs.Records.{CheckpointEnd, History, history, last_lsn, base_lsn, record_at, ◌▸▸◌};
+ghost use Rattle.log_laws.specs.Records.{History, start, ◌▸◌, last_lsn, record_at};
+ghost use Rattle.wal.specs.Content.{shown};
 ghost use Rattle.wal.specs.Spelling.{Fits};
 ghost use Rattle.log_laws.specs.Checkpoint.{first_end, is_begin};
 ghost use Rattle.analysis.specs.Tables.{entry_at, IsBase, BaseFault};
@@ -13,12 +14,11 @@ use page::Fault;
 use std::alloc::Global;
 use std::collections::BTreeMap;
 use std::marker::Model;
-use wal::{DirtyTable, Entry, Log, RecordView, TransactionTable};
+use wal::{Entry, RecordView};
 
-/// Looks for the tables of the checkpoint that a master names while a log is read. The log comes in
-/// pieces, up to its last record: each piece is a log whose base LSN is the last LSN of the one
-/// before it. The begin record of the checkpoint and its end may be in different pieces. The tables
-/// are copied, so that no piece has to stay.
+/// Looks for the tables of the checkpoint that a master names while a log is read. The records are
+/// given one by one in the order of the log, up to its last. The tables are copied, so that no
+/// record has to stay.
 #[derive(Drop)]
 pub struct CheckpointScan {
     alloc: Global,
@@ -41,8 +41,8 @@ impl Model for CheckpointScan {
 
 impl CheckpointScan {
     /// The scan for the tables of the checkpoint whose begin record has the LSN `master`, before
-    /// the first piece. They are empty if `master` is 0. The first piece may begin at any record up
-    /// to the one at `master`: no earlier record is needed.
+    /// the first record. They are empty if `master` is 0. The first record may be any up to the one
+    /// at `master`: no earlier one is needed.
     pub fn new(alloc: Global, master: u64) -> CheckpointScan
         ensures { (log : History) → record_at log master ≡ None → HasSeen master log result }
     {
@@ -59,23 +59,25 @@ impl CheckpointScan {
         }
     }
 
-    /// Looks for the begin record and for its end in the next piece. The only error is
-    /// `NoResource`, if memory was refused; the scan then stays as it was.
-    pub fn pass(&mut self, piece: &Log) -> Result<(), Fault>
-        ensures seen { OnOk result ((m : ℕ) (log : History)
-            → last_lsn log ≡ base_lsn (history piece.now) → HasSeen m log self.old
-            → HasSeen m (log ▸▸ piece.now.records) self.new) }
+    /// Looks at the record after an LSN. It may be the begin record, or after that the first end
+    /// that names it. The only error is `NoResource`, if memory was refused; the scan then stays as
+    /// it was.
+    pub fn take(&mut self, lsn: u64, view: &RecordView) -> Result<(), Fault>
+        requires fits { Fits (shown view.now) }
+        requires room { lsn + 1 < 2 ^ 64 }
+        ensures seen { OnOk result ((m : ℕ) (log : History) → last_lsn log ≡ lsn
+            → HasSeen m log self.old → HasSeen m (log ▸ shown view.now) self.new) }
         ensures unchanged { IfErr result (λ _. self.new ≡ self.old) }
         ensures err { IsOkUnless result NoResource }
     {
         if self.found.is_some() {
             return Ok(());
         }
-        if !has_begun(self.begins, piece, self.master) {
+        if !self.begins {
+            self.begins = lsn + 1 == self.master && is_begin(view);
             return Ok(());
         }
-        self.found = tables_in(self.alloc, piece, self.master)?;
-        self.begins = true;
+        self.found = tables_in(self.alloc, view, self.master)?;
         Ok(())
     }
 
@@ -106,56 +108,40 @@ impl CheckpointScan {
     }
 }
 
-/// Whether a checkpoint begin was found before, or is at this LSN of the piece.
-fn has_begun(before: bool, piece: &Log, lsn: u64) -> bool
-    ensures { result ≡ (before || is_begin (record_at (history piece.now) lsn)) }
+/// Whether a record is a checkpoint begin.
+fn is_begin(view: &RecordView) -> bool
+    ensures { result ≡ is_begin (Some (shown view.now)) }
 {
-    if before {
-        return true;
-    }
-    match piece.get(lsn) {
-        Some(RecordView::CheckpointBegin) => true,
+    match view {
+        RecordView::CheckpointBegin => true,
         _ => false,
     }
 }
 
-/// The tables of the first checkpoint end after the LSN `master` that names it. The function does
-/// not check that a begin record is there.
-fn end_in<'a>(log: &Log<'a>, master: u64) -> Option<(TransactionTable<'a>, DirtyTable<'a>)>
-    ensures found { option_map (λ x. (x.0, x.1)) result ≡ first_end master (history log.now) }
-    ensures fits { IfSome result (λ x. Fits (CheckpointEnd master x.0 x.1)) }
-{
-    let from = master.max(log.base());
-    for lsn in from..log.last() {
-        if let RecordView::CheckpointEnd {
-            begin,
-            transactions,
-            dirty,
-        } = log.after(lsn)
-        {
-            if begin == master {
-                return Some((transactions, dirty));
-            }
-        }
-    }
-    None
-}
-
-/// The same tables as maps.
+/// The tables of a record as maps, if it is a checkpoint end that names `master`.
 fn tables_in(
     alloc: Global,
-    log: &Log,
+    view: &RecordView,
     master: u64,
 ) -> Result<Option<(BTreeMap<u32, Entry>, BTreeMap<u32, u64>)>, Fault>
-    ensures some { IfOk result (λ found. IfSome found
-        (λ x. IsEnd master (history log.now) x.0.entries x.1.entries)) }
-    ensures none { IfOk result (λ found. IfNone found (first_end master (history log.now) ≡ None)) }
+    requires { Fits (shown view.now) }
+    ensures some { IfOk result (λ found. IfSome found (λ x. (lsn : ℕ) → master ≤ lsn
+        → IsEnd master (start lsn ▸ shown view.now) x.0.entries x.1.entries)) }
+    ensures none { IfOk result (λ found. IfNone found ((lsn : ℕ)
+        → first_end master (start lsn ▸ shown view.now) ≡ None)) }
     ensures err { IsOkUnless result NoResource }
 {
-    let Some((transactions, dirty)) = end_in(log, master) else {
-        return Ok(None);
-    };
-    let transactions = transactions_of(alloc, &transactions)?;
-    let dirty = dirty_pages_of(alloc, &dirty)?;
-    Ok(Some((transactions, dirty)))
+    if let RecordView::CheckpointEnd {
+        begin,
+        transactions,
+        dirty,
+    } = view
+    {
+        if *begin == master {
+            let transactions = transactions_of(alloc, transactions)?;
+            let dirty = dirty_pages_of(alloc, dirty)?;
+            return Ok(Some((transactions, dirty)));
+        }
+    }
+    Ok(None)
 }

@@ -1,8 +1,9 @@
 //! Analysis, the first pass of a restart: it finds the tables of a crash in a log, from the
 //! checkpoint that the store's master names up to the end.
 //!
-//! Entry points: [`analyse`] takes a whole log. If a log is read in pieces, [`CheckpointScan`]
-//! finds the tables of the checkpoint, and from these on [`TableScan`] those of the crash.
+//! Entry points: [`analyse`] takes a whole log. If a log is read record after record,
+//! [`CheckpointScan`] finds the tables of the checkpoint, and from these on [`TableScan`] those of
+//! the crash.
 //!
 //! The promise: on every log it finds the tables of the definition. On a lawful log and its store
 //! they list exactly the unfinished transactions, and redo by them skips no record that a page
@@ -16,8 +17,8 @@
 //!   transactions.
 //! - `scan`, `kept`: what one more record does to the tables, and where entries are found quickly
 //!   (`Steps`).
-//! - `checkpoint_scan`, `transaction_scan`, `page_scan`, `table_scan`: the same for a log that is
-//!   read in pieces (`Passing`).
+//! - `checkpoint_scan`, `table_scan`, `transaction_scan`, `page_scan`: the same for a log that is
+//!   read record after record, or in pieces (`Passing`).
 //! - `laws`: a log has one pair of tables, and at most one fault.
 #![tactic(auto)]
 

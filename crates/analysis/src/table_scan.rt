@@ -1,11 +1,12 @@
-//! Both tables while a log is read, piece after piece.
+//! Both tables while a log is read, record after record.
 
-ghost use Rattle.std.specs.Prelude.{◌≡◌, ◌≤◌, ℕ, None, IfOk, OnOk, IsOkUnless};
+ghost use Rattle.std.specs.Prelude.{◌≡◌, ◌≤◌, ◌<◌, ◌+◌, ◌^◌, ℕ, None, IfOk, OnOk, IsOkUnless};
 ghost use Rattle.page.specs.Store.{StoreContent};
 ghost use Rattle.page.specs.declared.fault.Fault.TheVariants.{NoResource};
 ghost use Rattle.wal.specs.Glances.{glance_of};
+ghost use Rattle.wal.specs.Spelling.{Fits};
 ghost use Rattle.log_laws.specs.Meaning.{BasePages};
-ghost use Rattle.log_laws.specs.Records.{LogRecord, LogContent, History, history, last_lsn, base_lsn, ◌▸▸◌};
+ghost use Rattle.log_laws.specs.Records.{LogRecord, LogContent, History, ◌▸◌, history, last_lsn, base_lsn};
 ghost use Rattle.log_laws.specs.Redo.{rec_lsn_of};
 ghost use Rattle.log_laws.specs.Store.{Lawful};
 ghost use Rattle.log_laws.specs.Undo.{entry_for};
@@ -23,11 +24,10 @@ use page::Fault;
 use std::alloc::Global;
 use std::collections::BTreeMap;
 use std::marker::Model;
-use wal::{Entry, Glance, Log};
+use wal::{Entry, Glance};
 
-/// The transaction table and the dirty page table while a log is read. The log comes in pieces, up
-/// to its last record: each piece is a log whose base LSN is the last LSN of the one before it, and
-/// no record is looked at twice. Contracts see the entries of both tables.
+/// The transaction table and the dirty page table while a log is read. The records are given one by
+/// one in the order of the log, up to its last. Contracts see the entries of both tables.
 #[derive(Drop)]
 pub struct TableScan {
     transactions: TransactionScan,
@@ -43,10 +43,10 @@ impl Model for TableScan {
 }
 
 impl TableScan {
-    /// The scan before the first piece, with the tables of the checkpoint that the master names, as
-    /// [`CheckpointScan`](crate::CheckpointScan) finds them. The first piece may begin at any
-    /// record up to the one after the checkpoint's begin record: earlier records do nothing to the
-    /// tables. The only error is `NoResource`, if memory was refused.
+    /// The scan before the first record, with the tables of the checkpoint that the master names,
+    /// as [`CheckpointScan`](crate::CheckpointScan) finds them. The first record may be any up to
+    /// the one after the checkpoint's begin record: earlier ones do nothing to the tables. The only
+    /// error is `NoResource`, if memory was refused.
     pub fn begin(
         alloc: Global,
         transactions: BTreeMap<u32, Entry>,
@@ -67,12 +67,9 @@ impl TableScan {
     }
 
     /// Notes in both tables what the record at an LSN does to them. The record is given at a
-    /// glance. It is the next one after those that were looked at, and comes after the checkpoint's
-    /// begin record.
-    ///
-    /// The only error is `NoResource`, if memory was refused. The scan must then be begun again.
+    /// glance.
     #[inline(always)]
-    pub fn note(&mut self, glance: Glance, lsn: u64) -> Result<(), Fault>
+    fn note(&mut self, glance: Glance, lsn: u64) -> Result<(), Fault>
         ensures entries { OnOk result ((t : ℕ) → entry_at t self.new.entries
             ≡ entry_seen lsn glance t (entry_at t self.old.entries)) }
         ensures pages { OnOk result ((r : LogRecord) → glance ≡ glance_of r → (page : ℕ)
@@ -84,29 +81,33 @@ impl TableScan {
         self.pages.note(glance, lsn)
     }
 
-    /// Looks at the records of the next piece for what they do to both tables. `master` is the LSN
-    /// of the checkpoint's begin record, 0 for none, and the same for all pieces: records up to it
-    /// do nothing to the tables.
+    /// Looks at the record after an LSN for what it does to both tables. The record is given at a
+    /// glance. `master` is the LSN of the checkpoint's begin record, 0 for none, and the same for
+    /// all records: those up to it do nothing to the tables.
     ///
-    /// The only error is `NoResource`, if memory was refused. The tables then have what some of the
-    /// piece's records do to them, and the scan must be begun again.
-    pub fn pass(&mut self, piece: &Log, master: u64) -> Result<(), Fault>
-        ensures goes_on { OnOk result ((whole log : History)
-            → last_lsn log ≡ base_lsn (history piece.now) → HasAnalysed master whole log self.old
-            → HasAnalysed master whole (log ▸▸ piece.now.records) self.new) }
+    /// The only error is `NoResource`, if memory was refused. The scan must then be begun again.
+    #[inline(always)]
+    pub fn take(&mut self, lsn: u64, glance: Glance, master: u64) -> Result<(), Fault>
+        requires seen { (r : LogRecord) × (glance ≡ glance_of r) × Fits r }
+        requires room { lsn + 1 < 2 ^ 64 }
+        ensures goes_on { OnOk result ((whole log : History) (r : LogRecord)
+            → glance ≡ glance_of r → Fits r → last_lsn log ≡ lsn
+            → HasAnalysed master whole log self.old
+            → HasAnalysed master whole (log ▸ r) self.new) }
         ensures no_transaction_0 { OnOk result (entry_at 0 self.old.entries ≡ None
             → entry_at 0 self.new.entries ≡ None) }
         ensures err { IsOkUnless result NoResource }
     {
-        let from = master.max(piece.base());
-        for lsn in from..piece.last() {
-            self.note(piece.glance_after(lsn), lsn + 1)?;
+        if lsn < master {
+            return Ok(());
         }
+        self.note(glance, lsn + 1)?;
         Ok(())
     }
 
-    /// The tables of the crash, after all pieces. `base` is the base LSN of the whole log, after
-    /// which redo begins at the earliest. The only error is `NoResource`, if memory was refused.
+    /// The tables of the crash, after the last record. `base` is the base LSN of the whole log,
+    /// after which redo begins at the earliest. The only error is `NoResource`, if memory was
+    /// refused.
     pub fn finish(self, base: u64) -> Result<Tables, Fault>
         requires { base ≤ LARGEST_BASE }
         ensures tables { IfOk result (λ tables. (log : LogContent) (m : ℕ)
