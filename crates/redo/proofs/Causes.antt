@@ -13,7 +13,7 @@ use Rattle.redo.proofs.Stretches.{boundary_last, skipped_within, skipped_some}
 use Rattle.redo.proofs.Routes.{all_exist}
 
 -- what is not skipped is looked at
-looked_at : (base redo_lsn len lsn : ℕ) → skipped base redo_lsn len < lsn → lsn ≤ len → IsLookedAt redo_lsn lsn
+pub looked_at : (base redo_lsn len lsn : ℕ) → skipped base redo_lsn len < lsn → lsn ≤ len → IsLookedAt redo_lsn lsn
 looked_at base zero len lsn past within = absurd (let e : skipped base 0 len ≡ len = refl in omega arith)
 looked_at base (suc n) len lsn past within = let e = skipped_some base n len in ((λ z. omega arith), omega arith)
 

@@ -1,28 +1,21 @@
--- The tallies while a log is read in pieces: one more record, and the records that are passed over.
+-- The tallies while a log is read: before the first record, with one more, and what a piece has of the whole log.
 use Rattle.std.proofs.Common.{◌≡◌, ◌≢◌, ℕ, zero, suc, replicate, ◌+◌, ◌<◌, ◌≤◌, true, eqb, eq-eqb, List, [], ◌∷◌, ◌++◌, All, Some, length, get_or, set, refl, sym, ap, ◌∙◌, subst, inl, inr, arith, length-append}
 use Rattle.std.proofs.lemmas.Bool.{cases_Bool, cases_eq, cases_lt, cond_both}
 use Rattle.std.proofs.lemmas.List.{get_or-set_same, get_or-set_other, length-set, set_past}
-use Rattle.std.proofs.lemmas.Option.{same_Some}
-use Rattle.page.specs.declared.fault.Fault.{Fault}
-use Rattle.page.specs.declared.fault.Fault.TheVariants.{NoResource, NoSuchPage}
 use Rattle.page.specs.declared.page.Page.{Page}
 use Rattle.tables.specs.Tables.{TablesContent}
-use Rattle.log_laws.specs.Records.{LogRecord, LogContent, start, history, record_at, last_lsn, base_lsn}
+use Rattle.log_laws.specs.Records.{LogContent, start, history, last_lsn, base_lsn}
 use Rattle.log_laws.specs.Redo.{rec_lsn_of, is_redone}
-use Rattle.log_laws.proofs.Histories.{base_within, first_at_base, record_above, record_within}
+use Rattle.log_laws.proofs.Histories.{first_at_base, record_above, record_within}
 use Rattle.redo.specs.declared.tally.Tally.{Tally}
-use Rattle.redo.specs.Inputs.{InputContent, input_over}
-use Rattle.redo.specs.Changes.{NamesBelow, advance, counted}
-use Rattle.redo.specs.Routes.{skipped, skipped_in, ExistWithin, NoteFault}
+use Rattle.redo.specs.Inputs.{input_over}
+use Rattle.redo.specs.Changes.{counted}
 use Rattle.tables.specs.Pieces.{IsPieceOf}
 use Rattle.redo.specs.Redone.{ExistBelow, AllExist, IsFirstMissing}
-use Rattle.redo.specs.Parts.{redo_page_in, image_at, resolved}
+use Rattle.redo.specs.Parts.{redo_page_in, image_at}
 use Rattle.redo.specs.OnePass.{AreUpTo}
-use Rattle.redo.specs.Passing.{TalliesSoFar, StandAtNumbers, LastsAreWithin, AreScanned, ListEach, AreBegunIn, IsPieceFor, PieceFault}
-use Rattle.redo.proofs.Stretches.{skipped_within, skipped_from, skipped_of_piece}
-use Rattle.redo.proofs.Replay.{skips_none}
-use Rattle.redo.proofs.Noting.{exist_on}
-use Rattle.redo.proofs.OnePass.{one_more, each_more}
+use Rattle.redo.specs.Passing.{StandAtNumbers, LastsAreWithin, AreScanned, ListEach, AreBegunIn}
+use Rattle.redo.proofs.OnePass.{each_more}
 use Rattle.page.specs.declared.profile.TheConstants.{SLOTS}
 
 -- A RECORD COUNTED
@@ -120,81 +113,13 @@ scanned_more tallies tally number applied lasts before =
           (omega (arith, ap (λ xs. get_or xs slot 0) lasts, zeros SLOTS slot)) k t (omega (arith, lt, count));
     }
 
--- A PIECE
--- the LSN up to which the records of a piece are passed over
-abbrev pub skipped_at : TalliesSoFar → LogContent → ℕ
-skipped_at old piece = skipped (base_lsn (history piece)) old.redo_lsn (last_lsn (history piece))
-
--- what is known when the records of a piece up to an LSN are counted
-pub record HasPassed (old : TalliesSoFar) (piece : LogContent) (lsn : ℕ) (tallies : List Tally) : Type 0 where
-  pub kept : AreScanned lsn tallies
-  pub count : length tallies ≡ length old.tallies
-  pub goes_on : (input : InputContent) → IsPieceFor input old.redo_lsn piece → AreUpTo input (base_lsn (history piece)) old.tallies → AreUpTo input lsn tallies
-  pub exist : ExistWithin piece (length old.tallies) (skipped_at old piece) lsn
-
--- the records that are passed over change nothing
-over : (input : InputContent) (old : TalliesSoFar) (piece : LogContent) → IsPieceFor input old.redo_lsn piece → AreUpTo input (base_lsn (history piece)) old.tallies → AreUpTo input (skipped_at old piece) old.tallies
-over input old piece own up =
-    let base = base_lsn (history piece) in
-    let last = last_lsn (history piece) in
-    let low = base_lsn (history input.log) in
-    let high = last_lsn (history input.log) in
-    let some = base_within (history piece) in
-    let from = skipped_from base old.redo_lsn last some in
-    let to = skipped_within base old.redo_lsn last some in
-    elim (skipped_of_piece low base old.redo_lsn last high own.piece_of.low some own.piece_of.high) [
-      | inl none ↦ subst (λ n. AreUpTo input n old.tallies) (sym none) up
-      | inr more ↦
-          (let few : skipped_at old piece ≤ skipped_in input = subst (λ n. skipped_at old piece ≤ skipped low n high) (sym own.from) more in
-          record {
-            count = up.count;
-            each = λ k t lt.
-                let image = image_at input.images k in
-                up.each k t lt
-                ∙ (skips_none input image base (omega (arith, from, few)) (omega (arith, some, own.piece_of.high))
-                ∙ sym (skips_none input image (skipped_at old piece) few (omega (arith, to, own.piece_of.high))));
-          })
-    ]
-
+-- up to a later LSN
 pub kept_on : (upto lsn : ℕ) (tallies : List Tally) → upto ≤ lsn → AreScanned upto tallies → AreScanned lsn tallies
 kept_on upto lsn tallies le kept = record {
   numbered = kept.numbered;
   few = λ k t lt. omega (arith, kept.few k t lt, le);
   lasts = λ k slot t lt. omega (arith, kept.lasts k slot t lt, le);
 }
-
-pub passed_over : (old : TalliesSoFar) (piece : LogContent) → AreScanned old.upto old.tallies → old.upto ≤ base_lsn (history piece)
-    → HasPassed old piece (skipped_at old piece) old.tallies
-passed_over old piece kept upto = record {
-  kept = kept_on old.upto (skipped_at old piece) old.tallies (omega (arith, upto, skipped_from (base_lsn (history piece)) old.redo_lsn (last_lsn (history piece)) (base_within (history piece)))) kept;
-  count = refl;
-  goes_on = λ input own up. over input old piece own up;
-  exist = λ lsn r past within found. absurd (omega (arith, past, within));
-}
-
--- one more record
-pub passed_more : (old : TalliesSoFar) (piece : LogContent) (lsn : ℕ) (r : LogRecord) (lent new : List Tally) → base_lsn (history piece) ≤ lsn → lsn < last_lsn (history piece) → record_at (history piece) (lsn + 1) ≡ Some r
-    → AreScanned (lsn + 1) new → length new ≡ length lent → NamesBelow (length lent) r
-    → ((input : InputContent) (k : ℕ) (t : Tally) → input.redo_lsn ≡ old.redo_lsn → record_at (history input.log) (lsn + 1) ≡ Some r → k < length lent
-    → resolved input (get_or new k t) ≡ advance input.redo_lsn (lsn + 1) r (resolved input (get_or lent k t)))
-    → HasPassed old piece lsn lent → HasPassed old piece (lsn + 1) new
-passed_more old piece lsn r lent new from lt there kept count below each before = record {
-  kept = kept;
-  count = count ∙ before.count;
-  goes_on = λ input own up.
-      let whole : record_at (history input.log) (lsn + 1) ≡ Some r = sym (own.piece_of.each (lsn + 1) (omega (arith, from)) (omega (arith, lt))) ∙ there in
-      one_more input own.numbered lsn lent (before.goes_on input own up) new (omega (arith, own.piece_of.low, from)) (omega (arith, own.piece_of.high, lt)) count
-      (λ x k t found less.
-      let same : r ≡ x = same_Some _ _ (sym whole ∙ found) in
-      subst (λ y. resolved input (get_or new k t) ≡ advance input.redo_lsn (lsn + 1) y (resolved input (get_or lent k t))) same (each input k t own.from whole less));
-  exist = exist_on piece (length old.tallies) (skipped_at old piece) lsn r there (subst (λ n. NamesBelow n r) before.count below) before.exist;
-}
-
--- why the pass ends: the record is on a page that is missing, or memory was refused
-pub piece_fault : (piece : LogContent) (count redo_lsn lsn : ℕ) (r : LogRecord) (e : Fault) → NoteFault count lsn r e → ((NamesBelow count r → ⊥) → IsFirstMissing piece count redo_lsn lsn) → PieceFault piece count redo_lsn e
-piece_fault piece count redo_lsn lsn r NoResource cause missing = tt
-piece_fault piece count redo_lsn lsn r (NoSuchPage n) cause missing = subst (IsFirstMissing piece count redo_lsn) (sym cause.0) (missing cause.1)
-piece_fault piece count redo_lsn lsn r e cause missing = absurd cause
 
 -- A PIECE AND THE WHOLE LOG
 -- if all exist before a piece and in it, all exist up to its last

@@ -1,7 +1,7 @@
 -- Where the stretches of the workers begin and end.
-use Rattle.std.proofs.Common.{◌≡◌, ℕ, ◌+◌, ◌-◌, ◌/◌, ◌%◌, ◌<◌, ◌≤◌, ◌⊎◌, zero, suc, cond, min, eqb, inl, inr, refl, ap, ◌∙◌, ne_eqb, arith, max}
+use Rattle.std.proofs.Common.{◌≡◌, ℕ, ◌+◌, ◌-◌, ◌/◌, ◌%◌, ◌<◌, ◌≤◌, suc, cond, min, eqb, ap, ◌∙◌, ne_eqb, arith, max}
 use Rattle.std.proofs.Math.Nat.{mul-add, mul-zero, mod-add-div', mul-le-mul_left}
-use Rattle.std.proofs.lemmas.Bool.{cond_both, cases_lt}
+use Rattle.std.proofs.lemmas.Bool.{cond_both}
 use Rattle.redo.specs.Routes.{skipped, boundary}
 
 pub boundary_first : (from len workers : ℕ) → boundary from len workers 0 ≡ from
@@ -32,12 +32,3 @@ skipped_from base redo_lsn len le = cond_both (eqb redo_lsn 0) len (max base (mi
 
 pub skipped_some : (base n len : ℕ) → skipped base (suc n) len ≡ max base (min len n)
 skipped_some base n len = ap (λ b. cond b len (max base (min len (suc n - 1)))) (ne_eqb (suc n) 0 (λ e. omega arith)) ∙ omega arith
-
--- if a piece has skipped records after its base, it skips no records that the whole log does not skip
-pub skipped_of_piece : (low base redo_lsn last high : ℕ) → low ≤ base → base ≤ last → last ≤ high → (skipped base redo_lsn last ≡ base) ⊎ (skipped base redo_lsn last ≤ skipped low redo_lsn high)
-skipped_of_piece low base zero last high a b c = inr (let e : skipped base 0 last ≡ last = refl in let f : skipped low 0 high ≡ high = refl in omega (arith, e, f, c))
-skipped_of_piece low base (suc n) last high a b c =
-    elim (cases_lt base (min last n)) [
-      | inl some ↦ inr (omega (arith, skipped_some base n last, skipped_some low n high, some, c))
-      | inr none ↦ inl (omega (arith, skipped_some base n last, none))
-    ]

@@ -1,5 +1,5 @@
--- PASSING. The tallies of redo while a log is read in pieces: each piece is a log, and begins after the last LSN of the one before it
--- (own).
+-- PASSING. The tallies of redo while a log is read record after record, and what a piece has of it: each piece is a log, and begins after
+-- the last LSN of the one before it (own).
 use Rattle.std.specs.Prelude.{◌≡◌, ℕ, ◌<◌, ◌≤◌, List, Some, length, slice_index_or, replicate, All, ⊤}
 use Rattle.page.specs.declared.fault.Fault.{Fault}
 use Rattle.page.specs.declared.fault.Fault.TheVariants.{NoResource, NoSuchPage}
@@ -17,7 +17,7 @@ use Rattle.redo.specs.Inputs.{InputContent, input_over}
 use Rattle.redo.specs.Parts.{redo_page_in, image_at, resolved}
 use Rattle.redo.specs.Redone.{IsFirstMissing}
 
--- the tallies of all pages, from which LSN on records are looked at, and up to which LSN the log was read
+-- the tallies of all pages, from which LSN on records are looked at, and an LSN above which none was counted
 pub record TalliesSoFar : Type 0 where
   pub tallies : List Tally
   pub redo_lsn : ℕ
@@ -31,7 +31,7 @@ StandAtNumbers tallies = (k : ℕ) (t : Tally) → k < length tallies → (slice
 abbrev pub LastsAreWithin : (lsn : ℕ) → List Tally → Type 0
 LastsAreWithin lsn tallies = (k slot : ℕ) (t : Tally) → k < length tallies → slice_index_or (slice_index_or tallies k t).lasts slot 0 ≤ lsn
 
--- what holds for the tallies of each scan, if the log was read up to an LSN
+-- what holds for the tallies of each scan, if no record above an LSN was counted
 pub record AreScanned (upto : ℕ) (tallies : List Tally) : Type 0 where
   pub numbered : StandAtNumbers tallies
   pub few : All (λ (t : Tally). t.applied ≤ upto) tallies

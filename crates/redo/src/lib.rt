@@ -2,7 +2,7 @@
 //! each slot the last record that a page lacks, and only then puts the images of these records in.
 //!
 //! Entry points: [`redo`] with workers, [`redo_watched`] without threads, and [`TallyScan`] for a
-//! log that is read in pieces. A [`Gate`] is a hook that is called for each part.
+//! log that is read record after record. A [`Gate`] is a hook that is called for each part.
 //!
 //! The promise: each page gets the records that ARIES applies, in order, for every number of
 //! workers, partition and gate.
@@ -21,9 +21,9 @@
 //!   images into the pages.
 //! - `one_pass`, `watch`, `unthreaded`: one pass over the records in place of the rounds, for one
 //!   worker or no threads (`OnePass`).
-//! - `tally_scan`, `tally_table`, `wanted`, `ordered`, `fetch`: a log that is read in pieces, with
-//!   tallies only for pages that change, and then the images of the last records (`Passing`,
-//!   `Placed`, `Wanted`).
+//! - `tally_scan`, `tally_table`, `wanted`, `ordered`, `fetch`: a log that is read record after
+//!   record, with tallies only for pages that change, and then the images of the last records in
+//!   pieces of the log (`Passing`, `Placed`, `Wanted`).
 //! - `laws`: redo has at most one fault.
 #![tactic(auto)]
 

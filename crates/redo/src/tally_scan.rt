@@ -1,19 +1,19 @@
-//! The tallies of all pages while a log is read, piece after piece.
+//! The tallies of all pages while a log is read, record after record.
 
-ghost use Rattle.std.specs.Prelude.{◌≡◌, ◌-◌, ◌≤◌, ◌<◌, ◌↔◌, List, All, Contains, length, min, IfOk, OnOk, IfErr, OnErr, IsOkUnless};
+ghost use Rattle.std.specs.Prelude.{◌≡◌, ◌+◌, ◌-◌, ◌^◌, ◌≤◌, ◌<◌, ◌↔◌, List, All, Contains, length, min, IfOk, OnOk, IfErr, OnErr, IsOkUnless};
 ghost use Rattle.std.specs.List.{sum_by};
 ghost use Rattle.std.specs.List.Sorted.{IsNonDecreasingBy};
 ghost use Rattle.page.specs.declared.fault.Fault.TheVariants.{NoResource};
 ghost use Rattle.page.specs.Store.{AreNumbered};
-ghost use Rattle.log_laws.specs.Records.{LogRecord, LogContent, History, history, last_lsn, base_lsn};
+ghost use Rattle.log_laws.specs.Records.{LogRecord, LogContent, History, history, base_lsn};
 ghost use Rattle.wal.specs.Glances.{glance_of};
 ghost use Rattle.tables.specs.Tables.{TablesContent};
 ghost use Rattle.changes.specs.Numbered.{StayNumbered};
 ghost use Rattle.redo.specs.Inputs.{InputContent, input_over};
 ghost use Rattle.redo.specs.OnePass.{AreUpTo};
-ghost use Rattle.redo.specs.Redone.{AllExist};
+ghost use Rattle.redo.specs.Redone.{IsLookedAt};
 ghost use Rattle.redo.specs.Routes.{IsSeen, NoteFault};
-ghost use Rattle.redo.specs.Passing.{ListEach, IsPieceFor, IsRecordFor, PieceFault};
+ghost use Rattle.redo.specs.Passing.{ListEach, IsRecordFor};
 ghost use Rattle.redo.specs.Wanted.{IsWanted, HoldAllBut, ShowAllBut, ShowFinished};
 ghost use Rattle.redo.specs.declared.wanted.Wanted.{Wanted};
 ghost use Rattle.redo.specs.Changes.{NamesBelow};
@@ -21,7 +21,6 @@ ghost use Rattle.page.specs.declared.profile.TheConstants.{SLOTS};
 ghost use Rattle.page.specs.declared.page.Page.{Page};
 
 use crate::fetch::set_page_lsns;
-use crate::input::skipped_below;
 use crate::ordered::by_lsn;
 use crate::tally_table::{TallyTable, begin_each, begin_each_listed, count_seen};
 use crate::wanted::Wanted;
@@ -30,13 +29,12 @@ use page::Fault;
 use std::alloc::Global;
 use std::marker::Model;
 use tables::Tables;
-use wal::{Glance, Log};
+use wal::Glance;
 
 /// The tallies of all pages of a store while a log is read: for each slot, which is the last of the
-/// records that its page lacks. The log comes in pieces, from its first record to its last: each
-/// piece is a log whose base LSN is the last LSN of the one before it. The records of a piece can
-/// be given one by one too. Contracts see the tallies, the LSN from which records are looked at,
-/// and the LSN up to which the log was read.
+/// records that its page lacks. The records are given one by one in the order of the log, up to its
+/// last. Contracts see the tallies, the LSN from which records are looked at, and an LSN above
+/// which none was counted.
 #[derive(Drop)]
 pub struct TallyScan {
     tallies: TallyTable,
@@ -107,52 +105,11 @@ impl TallyScan {
         })
     }
 
-    /// Counts each record of the next piece from `redo_lsn` on for its page, if the page lacks the
-    /// record. If `redo_lsn` is 0, none is counted. Takes memory for each page to which the first
-    /// record is applied.
-    ///
-    /// Errors: `NoSuchPage` with the LSN of the first of these records that is on a page which the
-    /// store lacks; `NoResource` if memory was refused. The records before it are counted then, so
-    /// the scan cannot be continued.
-    pub fn pass(&mut self, piece: &Log) -> Result<(), Fault>
-        requires { self.old.upto ≤ base_lsn (history piece.now) }
-        // For each log that the piece can be of, the tallies have its records up to the piece's
-        // last.
-        ensures goes_on { OnOk result ((input : InputContent)
-            → IsPieceFor input self.old.redo_lsn piece.now
-            → AreUpTo input (base_lsn (history piece.now)) self.old.tallies
-            → AreUpTo input (last_lsn (history piece.now)) self.new.tallies) }
-        ensures exist { OnOk result
-            (AllExist piece.now (length self.old.tallies) self.old.redo_lsn) }
-        ensures fault { IfErr result
-            (PieceFault piece.now (length self.old.tallies) self.old.redo_lsn) }
-
-        ensures count { length self.new.tallies ≡ length self.old.tallies }
-        ensures redo_lsn { self.new.redo_lsn ≡ self.old.redo_lsn }
-        ensures upto { self.new.upto ≡ last_lsn (history piece.now) }
-    {
-        let redo_lsn = self.redo_lsn;
-        let from = skipped_below(piece, redo_lsn);
-        let last = piece.last();
-        self.upto = last;
-        for lsn in from..last {
-            let glance = piece.glance_after(lsn);
-            count_seen(&mut self.tallies, redo_lsn, lsn + 1, glance)?;
-        }
-        Ok(())
-    }
-
     /// Counts the record at an LSN for its page, if it is on one and the page lacks the record. The
-    /// record is given at a glance. Takes memory if it is the first that is applied to its page. The
-    /// log is then read up to this LSN, which is above the one up to which it was read before.
-    ///
-    /// Give it the records from `redo_lsn` on, and none if `redo_lsn` is 0: any other record is not
-    /// counted, but is an error if the store lacks its page.
-    ///
-    /// Errors: `NoSuchPage` with this LSN if the record is on a page which the store lacks;
-    /// `NoResource` if memory was refused. The scan then stays as it was.
+    /// record is given at a glance. It is one that redo looks at. The scan stays as it was if there
+    /// is an error.
     #[inline(always)]
-    pub fn note(&mut self, glance: Glance, lsn: u64) -> Result<(), Fault>
+    fn note(&mut self, glance: Glance, lsn: u64) -> Result<(), Fault>
         requires seen { IsSeen glance }
         requires upto { self.old.upto < lsn }
         // For each log that the record can be of: if the tallies have all records before it, they
@@ -175,7 +132,41 @@ impl TallyScan {
         Ok(())
     }
 
-    /// The LSN up to which the log was read.
+    /// Counts the record after an LSN for its page, if it is from `redo_lsn` on and the page lacks
+    /// it. If `redo_lsn` is 0, none is counted. The record is given at a glance. Takes memory if it
+    /// is the first that is applied to its page.
+    ///
+    /// Errors: `NoSuchPage` with the record's LSN if it is from `redo_lsn` on, and on a page which
+    /// the store lacks; `NoResource` if memory was refused. The scan then stays as it was.
+    #[inline(always)]
+    pub fn take(&mut self, lsn: u64, glance: Glance) -> Result<(), Fault>
+        requires seen { IsSeen glance }
+        requires upto { self.old.upto ≤ lsn }
+        requires room { lsn + 1 < 2 ^ 64 }
+        // For each log that the record can be of: if the tallies have all records before it, they
+        // then have it too.
+        ensures goes_on { OnOk result ((input : InputContent)
+            → IsRecordFor input self.old.redo_lsn (lsn + 1) glance
+            → AreUpTo input lsn self.old.tallies → AreUpTo input (lsn + 1) self.new.tallies) }
+        ensures exists { OnOk result ((r : LogRecord) → glance ≡ glance_of r
+            → IsLookedAt self.old.redo_lsn (lsn + 1) → NamesBelow (length self.old.tallies) r) }
+        ensures fault { IfErr result (λ e. IsLookedAt self.old.redo_lsn (lsn + 1)
+            × ((r : LogRecord) → glance ≡ glance_of r
+            → NoteFault (length self.old.tallies) (lsn + 1) r e)) }
+        ensures unchanged { OnErr result (self.new ≡ self.old) }
+
+        ensures count { length self.new.tallies ≡ length self.old.tallies }
+        ensures redo_lsn { self.new.redo_lsn ≡ self.old.redo_lsn }
+        ensures upto { self.new.upto ≤ lsn + 1 }
+    {
+        if self.redo_lsn == 0 || lsn + 1 < self.redo_lsn {
+            return Ok(());
+        }
+        self.note(glance, lsn + 1)?;
+        Ok(())
+    }
+
+    /// An LSN above which no record was counted.
     pub fn upto(&self) -> u64
         ensures { result ≡ self.now.upto }
     {
