@@ -59,9 +59,9 @@ impl CheckpointScan {
         }
     }
 
-    /// Looks at the record after an LSN: whether it is the begin record, or the end of that
-    /// checkpoint after it. The only error is `NoResource`, if memory was refused; the scan then
-    /// stays as it was.
+    /// Looks at the record after an LSN. It may be the begin record, or after that the first end
+    /// that names it. The only error is `NoResource`, if memory was refused; the scan then stays as
+    /// it was.
     pub fn take(&mut self, lsn: u64, view: &RecordView) -> Result<(), Fault>
         requires fits { Fits (shown view.now) }
         requires room { lsn + 1 < 2 ^ 64 }

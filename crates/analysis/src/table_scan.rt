@@ -105,8 +105,9 @@ impl TableScan {
         Ok(())
     }
 
-    /// The tables of the crash, after the last record. `base` is the base LSN of the whole log, after
-    /// which redo begins at the earliest. The only error is `NoResource`, if memory was refused.
+    /// The tables of the crash, after the last record. `base` is the base LSN of the whole log,
+    /// after which redo begins at the earliest. The only error is `NoResource`, if memory was
+    /// refused.
     pub fn finish(self, base: u64) -> Result<Tables, Fault>
         requires { base ≤ LARGEST_BASE }
         ensures tables { IfOk result (λ tables. (log : LogContent) (m : ℕ)

@@ -166,7 +166,7 @@ impl TallyScan {
         Ok(())
     }
 
-    /// No record above this LSN was counted.
+    /// An LSN above which no record was counted.
     pub fn upto(&self) -> u64
         ensures { result ≡ self.now.upto }
     {

@@ -1,9 +1,9 @@
-//! Analysis of a log that is read in pieces: what it finds is what `analyse` finds in the whole
-//! log.
+//! Analysis of a log that is read in pieces, or record after record: what it finds is what
+//! `analyse` finds in the whole log.
 
 use super::analysed::ROWS;
 use super::records::{log_of, put};
-use analysis::{CheckpointScan, PageScan, TransactionScan, analyse};
+use analysis::{CheckpointScan, PageScan, TableScan, Tables, TransactionScan, analyse};
 use checks::check;
 use page::Fault;
 use std::alloc::Global;
@@ -26,17 +26,44 @@ fn piece_of(alloc: Global, log: &Log, from: u64, upto: u64) -> Result<Vec<u8>, F
     Ok(bytes)
 }
 
+/// Gives each record of a piece to the scan for the tables of a checkpoint.
+fn take_each(scan: &mut CheckpointScan, piece: &Log) -> Result<(), Fault> {
+    for lsn in piece.base()..piece.last() {
+        scan.take(lsn, &piece.after(lsn))?;
+    }
+    Ok(())
+}
+
 /// The tables of the checkpoint, for a log that is read in these pieces.
 fn checkpoint_by(alloc: Global, pieces: &[Vec<u8>], master: u64) -> Result<Maps, Fault> {
     let mut scan = CheckpointScan::new(alloc, master);
     for bytes in pieces {
         let (piece, _) = read_log(alloc, bytes)?;
-        scan.pass(&piece)?;
+        take_each(&mut scan, &piece)?;
     }
     scan.finish()
 }
 
-/// The tables after a log that is read in these pieces.
+/// Gives each record of a piece to the scan for both tables.
+fn note_each(scan: &mut TableScan, piece: &Log, master: u64) -> Result<(), Fault> {
+    for lsn in piece.base()..piece.last() {
+        scan.take(lsn, piece.glance_after(lsn), master)?;
+    }
+    Ok(())
+}
+
+/// The tables after a log that is read in these pieces, by the scan for both of them.
+fn both_by(alloc: Global, log: &Log, pieces: &[Vec<u8>], master: u64) -> Result<Tables, Fault> {
+    let (transactions, dirty) = checkpoint_by(alloc, pieces, master)?;
+    let mut scan = TableScan::begin(alloc, transactions, dirty)?;
+    for bytes in pieces {
+        let (piece, _) = read_log(alloc, bytes)?;
+        note_each(&mut scan, &piece, master)?;
+    }
+    scan.finish(log.base())
+}
+
+/// The tables after a log that is read in these pieces, each by its own scan.
 fn tables_by(alloc: Global, pieces: &[Vec<u8>], master: u64) -> Result<Maps, Fault> {
     let (transactions, dirty) = checkpoint_by(alloc, pieces, master)?;
     let mut transactions = TransactionScan::begin(transactions);
@@ -69,8 +96,24 @@ fn are_same_pages(a: &BTreeMap<u32, u64>, b: &BTreeMap<u32, u64>) -> bool {
     a.len() == b.len()
 }
 
-/// Whether analysis of these pieces finds what analysis of the log does: the tables, or the fault.
-fn is_same(alloc: Global, log: &Log, pieces: &[Vec<u8>], master: u64) -> bool {
+/// Whether the scan for both tables finds in these pieces what analysis of the log does.
+fn are_both_same(alloc: Global, log: &Log, pieces: &[Vec<u8>], master: u64) -> bool {
+    match (
+        analyse(alloc, log, master),
+        both_by(alloc, log, pieces, master),
+    ) {
+        (Ok(whole), Ok(tables)) => {
+            are_same_transactions(&whole.transactions, &tables.transactions)
+                && are_same_pages(&whole.dirty, &tables.dirty)
+                && whole.redo_lsn == tables.redo_lsn
+        }
+        (Err(whole), Err(fault)) => whole == fault,
+        (_, _) => false,
+    }
+}
+
+/// Whether the scans for one table do.
+fn is_each_same(alloc: Global, log: &Log, pieces: &[Vec<u8>], master: u64) -> bool {
     match (
         analyse(alloc, log, master),
         tables_by(alloc, pieces, master),
@@ -82,6 +125,11 @@ fn is_same(alloc: Global, log: &Log, pieces: &[Vec<u8>], master: u64) -> bool {
         (Err(whole), Err(fault)) => whole == fault,
         (_, _) => false,
     }
+}
+
+/// Whether analysis of these pieces finds what analysis of the log does: the tables, or the fault.
+fn is_same(alloc: Global, log: &Log, pieces: &[Vec<u8>], master: u64) -> bool {
+    is_each_same(alloc, log, pieces, master) && are_both_same(alloc, log, pieces, master)
 }
 
 /// Whether it does so if the log is cut after this LSN.

@@ -44,12 +44,16 @@ fn cut(alloc: Global, log: &[u8], records: u64) -> Result<Vec<Vec<u8>>, Fault> {
     Ok(pieces)
 }
 
-/// Passes the next piece. A piece that does not follow the others is a bad one.
-fn pass(scan: &mut TallyScan, piece: &Log) -> Result<(), Fault> {
-    if scan.upto() != piece.base() {
-        return Err(Fault::BadLogHeader);
+/// Gives each record of the next piece to the scan. A piece that does not follow the others is a
+/// bad one.
+fn take_each(scan: &mut TallyScan, piece: &Log) -> Result<(), Fault> {
+    for lsn in piece.base()..piece.last() {
+        if scan.upto() > lsn {
+            return Err(Fault::BadLogHeader);
+        }
+        scan.take(lsn, piece.glance_after(lsn))?;
     }
-    scan.pass(piece)
+    Ok(())
 }
 
 /// Fetches from a piece the images that are wanted after the first `taken`. Returns how many there
@@ -91,7 +95,7 @@ fn tallied<P: Pages>(
     let mut scan = TallyScan::begin(alloc, pages, &tables, 0)?;
     for piece in pieces {
         let (piece, _) = read_log(alloc, piece)?;
-        pass(&mut scan, &piece)?;
+        take_each(&mut scan, &piece)?;
     }
     Ok(scan)
 }
