@@ -10,7 +10,6 @@ pub mod Numbers
 pub mod OneTables
 pub mod NoFurther
 mod NoTables
-pub mod Noted
 pub mod Halves
 pub mod Passing
 pub mod Ends

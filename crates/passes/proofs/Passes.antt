@@ -23,11 +23,6 @@ module _ {P : Type 0} (pass : Pass P) where
   abbrev pub TakenBefore : (text : List ℕ) → (old now : P) → (before last : LogContent) → Type 0
   TakenBefore text old now before last = (whole : LogContent) (torn : ℕ) → Reads text whole torn → pass.passes old now whole before last
 
-  -- A FAULT of a device or a lack of memory stops it
-  pub stops_for_resource : ((scan : P) (whole before : LogContent) → pass.stops scan whole before NoResource) → (old : P) (whole before : LogContent) (e : PassFault) → IsResource e → Stops pass old whole before e
-  stops_for_resource memory old whole before e (inl failed) = subst (Stops pass old whole before) (sym failed) tt
-  stops_for_resource memory old whole before e (inr none) = subst (Stops pass old whole before) (sym none) (memory old whole before)
-
   -- what is true of a failed device and of each fault of the pass is true of what stops it
   pub stops_as : (old : P) (whole before : LogContent) (Q : PassFault → Type 0) → Q fault.Failed → ((e : Fault) → pass.stops old whole before e → Q (fault.Fault e)) → (e : PassFault) → Stops pass old whole before e → Q e
   stops_as old whole before Q failed own fault.Failed stops = failed

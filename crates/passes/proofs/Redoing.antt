@@ -20,12 +20,10 @@ use Rattle.redo.specs.Parts.{redo_page_in, image_at}
 use Rattle.redo.specs.Routes.{skipped}
 use Rattle.redo.specs.OnePass.{AreUpTo}
 use Rattle.redo.specs.Passing.{TalliesSoFar, IsPieceFor}
-use Rattle.redo.specs.Passing.{PieceFault as PassCause}
 use Rattle.redo.specs.Redone.{IsLookedAt, AllExist, ExistBelow, RedoFault}
 use Rattle.redo.proofs.LastRecords.{in_slot}
 use Rattle.redo.proofs.Stretches.{skipped_some}
 use Rattle.redo.proofs.Replay.{skips_none}
-use Rattle.redo.proofs.Passing.{exist_gone, missing_gone}
 use Rattle.passes.proofs.ReadForward.{mark_within}
 use Rattle.passes.specs.declared.fault.PassFault.{PassFault}
 use Rattle.passes.specs.Calls.{IsRoom}

@@ -70,10 +70,6 @@ module _ {P : Type 0} (pass : Pass P) (mark : Mark) (bytes : List ℕ) (fits : A
     last_is : last_lsn (history (records_to mark bytes so_far.offsets)) ≡ lsn
     last_is = last_frame (Version2 mark.lsn) bytes so_far.offsets ∙ sym so_far.number
 
-    -- there is room for more
-    pub is_short : (lsn < 2 ^ 63 + 2 ^ 63) × (end ≤ length bytes)
-    is_short = (omega (arith, so_far.number, so_far.frames.frames.long, so_far.frames.frames.room, so_far.frames.frames.low, short), so_far.frames.frames.room)
-
     -- WHAT IS SEEN at the front of the rest
     module _ (rest : List ℕ) (back : rest ≡ drop end bytes) where
       -- no frame

@@ -1,6 +1,6 @@
 -- One record of a log that is given by itself: the tallies with it, and what is known of the records so far.
 use Rattle.std.proofs.Common.{◌≡◌, ℕ, ◌+◌, ◌-◌, ◌<◌, ◌≤◌, List, Some, length, get_or, sym, ap, ◌∙◌, subst, inl, inr, arith}
-use Rattle.std.proofs.lemmas.Bool.{cases_eq, cases_lt}
+use Rattle.std.proofs.lemmas.Bool.{cases_lt}
 use Rattle.std.proofs.lemmas.Option.{same_Some}
 use Rattle.page.specs.declared.fault.Fault.{Fault}
 use Rattle.page.specs.declared.fault.Fault.TheVariants.{NoResource, NoSuchPage}
@@ -69,24 +69,9 @@ module _ (input : InputContent) (redo_lsn lsn : ℕ) (glance : Glance) (piece : 
     seen_of = seen.seen_of;
   }
 
-  -- the tallies of the records up to an LSN, with the record after it
-  pub counted_behind : (tallies new : List Tally) → ((any : InputContent) → IsRecordFor any redo_lsn (lsn + 1) glance → AreUpTo any (lsn + 1 - 1) tallies → AreUpTo any (lsn + 1) new)
-      → AreUpTo input lsn tallies → AreUpTo input (lsn + 1) new
-  counted_behind tallies new goes_on up =
-      let same : lsn ≡ lsn + 1 - 1 = omega arith in
-      goes_on input record_of_piece (subst (λ n. AreUpTo input n tallies) same up)
-
--- THE RECORDS
+-- THE RECORDS that redo looks at are on pages below the count, up to one
 module _ (whole : LogContent) (count redo_lsn lsn : ℕ) (r : LogRecord) (there : record_at (history whole) lsn ≡ Some r) (before : ExistBelow whole count redo_lsn lsn) where
-  -- if all exist below an LSN, and the record at it is on a page below the count, all exist with it
-  pub exist_with : NamesBelow count r → ExistBelow whole count redo_lsn (lsn + 1)
-  exist_with below k x looked less found =
-      elim (cases_eq k lsn) [
-        | inl here ↦ subst (NamesBelow count) (same_Some _ _ (sym there ∙ (ap (record_at (history whole)) (sym here) ∙ found))) below
-        | inr other ↦ before k x looked (omega (arith, less, other)) found
-      ]
-
-  -- otherwise it is the first that is missing
+  -- one that is not is the first that is missing
   pub missing_at : IsLookedAt redo_lsn lsn → (NamesBelow count r → ⊥) → IsFirstMissing whole count redo_lsn lsn
   missing_at looked beyond = record { entry = r; looked_at = looked; there = there; beyond = beyond; before = before }
 

@@ -1,17 +1,15 @@
 -- The tallies while a log is read: before the first record, with one more, and what a piece has of the whole log.
-use Rattle.std.proofs.Common.{◌≡◌, ◌≢◌, ℕ, zero, suc, replicate, ◌+◌, ◌<◌, ◌≤◌, true, eqb, eq-eqb, List, [], ◌∷◌, ◌++◌, All, Some, length, get_or, set, refl, sym, ap, ◌∙◌, subst, inl, inr, arith, length-append}
+use Rattle.std.proofs.Common.{◌≡◌, ◌≢◌, ℕ, zero, suc, replicate, ◌<◌, ◌≤◌, true, eqb, eq-eqb, List, [], ◌∷◌, ◌++◌, All, Some, length, get_or, set, refl, sym, ap, ◌∙◌, subst, inl, inr, arith, length-append}
 use Rattle.std.proofs.lemmas.Bool.{cases_Bool, cases_eq, cases_lt, cond_both}
 use Rattle.std.proofs.lemmas.List.{get_or-set_same, get_or-set_other, length-set, set_past}
 use Rattle.page.specs.declared.page.Page.{Page}
 use Rattle.tables.specs.Tables.{TablesContent}
-use Rattle.log_laws.specs.Records.{LogContent, start, history, last_lsn, base_lsn}
+use Rattle.log_laws.specs.Records.{LogContent, start, history, base_lsn}
 use Rattle.log_laws.specs.Redo.{rec_lsn_of, is_redone}
-use Rattle.log_laws.proofs.Histories.{first_at_base, record_above, record_within}
+use Rattle.log_laws.proofs.Histories.{first_at_base}
 use Rattle.redo.specs.declared.tally.Tally.{Tally}
 use Rattle.redo.specs.Inputs.{input_over}
 use Rattle.redo.specs.Changes.{counted}
-use Rattle.tables.specs.Pieces.{IsPieceOf}
-use Rattle.redo.specs.Redone.{ExistBelow, AllExist, IsFirstMissing}
 use Rattle.redo.specs.Parts.{redo_page_in, image_at}
 use Rattle.redo.specs.OnePass.{AreUpTo}
 use Rattle.redo.specs.Passing.{StandAtNumbers, LastsAreWithin, AreScanned, ListEach, AreBegunIn}
@@ -121,30 +119,3 @@ kept_on upto lsn tallies le kept = record {
   lasts = λ k slot t lt. omega (arith, kept.lasts k slot t lt, le);
 }
 
--- A PIECE AND THE WHOLE LOG
--- if all exist before a piece and in it, all exist up to its last
-pub exist_gone : (whole piece : LogContent) (count redo_lsn : ℕ) → IsPieceOf (history whole) (history piece) → ExistBelow whole count redo_lsn (base_lsn (history piece) + 1) → AllExist piece count redo_lsn
-    → ExistBelow whole count redo_lsn (last_lsn (history piece) + 1)
-exist_gone whole piece count redo_lsn own before exist lsn r looked below found =
-    elim (cases_lt (base_lsn (history piece)) lsn) [
-      | inl above ↦ exist lsn r looked (own.each lsn above (omega (arith, below)) ∙ found)
-      | inr front ↦ before lsn r looked (omega (arith, front)) found
-    ]
-
--- and the first that is missing in the piece is the first of the whole log
-pub missing_gone : (whole piece : LogContent) (count redo_lsn lsn : ℕ) → IsPieceOf (history whole) (history piece) → ExistBelow whole count redo_lsn (base_lsn (history piece) + 1) → IsFirstMissing piece count redo_lsn lsn
-    → IsFirstMissing whole count redo_lsn lsn
-missing_gone whole piece count redo_lsn lsn own before m =
-    let above = record_above (history piece) lsn m.entry m.there in
-    let within = record_within (history piece) lsn m.entry m.there in
-    record {
-      entry = m.entry;
-      looked_at = m.looked_at;
-      there = sym (own.each lsn above within) ∙ m.there;
-      beyond = m.beyond;
-      before = λ k r looked less found.
-          elim (cases_lt (base_lsn (history piece)) k) [
-            | inl over ↦ m.before k r looked less (own.each k over (omega (arith, less, within)) ∙ found)
-            | inr front ↦ before k r looked (omega (arith, front)) found
-          ];
-    }

@@ -1,8 +1,6 @@
 -- PASSING. The tallies of redo while a log is read record after record, and what a piece has of it: each piece is a log, and begins after
 -- the last LSN of the one before it (own).
-use Rattle.std.specs.Prelude.{◌≡◌, ℕ, ◌<◌, ◌≤◌, List, Some, length, slice_index_or, replicate, All, ⊤}
-use Rattle.page.specs.declared.fault.Fault.{Fault}
-use Rattle.page.specs.declared.fault.Fault.TheVariants.{NoResource, NoSuchPage}
+use Rattle.std.specs.Prelude.{◌≡◌, ℕ, ◌<◌, ◌≤◌, List, Some, length, slice_index_or, replicate, All}
 use Rattle.page.specs.declared.page.Page.{Page}
 use Rattle.page.specs.Store.{AreNumbered}
 use Rattle.page.specs.declared.profile.TheConstants.{SLOTS}
@@ -15,7 +13,6 @@ use Rattle.tables.specs.Pieces.{IsPieceOf}
 use Rattle.redo.specs.declared.tally.Tally.{Tally}
 use Rattle.redo.specs.Inputs.{InputContent, input_over}
 use Rattle.redo.specs.Parts.{redo_page_in, image_at, resolved}
-use Rattle.redo.specs.Redone.{IsFirstMissing}
 
 -- the tallies of all pages, from which LSN on records are looked at, and an LSN above which none was counted
 pub record TalliesSoFar : Type 0 where
@@ -57,13 +54,6 @@ pub record IsPieceFor (input : InputContent) (redo_lsn : ℕ) (piece : LogConten
   pub numbered : AreNumbered input.images
   pub from : input.redo_lsn ≡ redo_lsn
   pub piece_of : IsPieceOf (history input.log) (history piece)
-
--- the error of a piece, memory aside: the record at this LSN is the first one on a page past the count, of those in the piece that redo
--- looks at
-abbrev pub PieceFault : LogContent → (count redo_lsn : ℕ) → Fault → Type 0
-PieceFault piece count redo_lsn NoResource = ⊤
-PieceFault piece count redo_lsn (NoSuchPage lsn) = IsFirstMissing piece count redo_lsn lsn
-PieceFault piece count redo_lsn e = ⊥
 
 -- the record at an LSN of the log that redo looks at, from redo_lsn on, as it is seen at a glance, with pages that are at their numbers
 pub record IsRecordFor (input : InputContent) (redo_lsn lsn : ℕ) (glance : Glance) : Type 0 where
