@@ -1,8 +1,11 @@
 -- PASSING. Analysis of a log that is read record after record, or in pieces: each piece is a log, whose base LSN is the last LSN of what
 -- was read before it (own).
 use Rattle.std.specs.Prelude.{◌≡◌, ◌≤◌, ◌⊎◌, ℕ, Bool, List, Option, Some, None, IfSome}
+use Rattle.wal.specs.declared.glance.Glance.{Glance}
 use Rattle.wal.specs.declared.record.Entry.{Entry}
-use Rattle.log_laws.specs.Records.{TableEntry, LogRecord, History, start, ◌▸▸◌, last_lsn, base_lsn, record_at}
+use Rattle.wal.specs.Glances.{glance_of}
+use Rattle.wal.specs.Spelling.{Fits}
+use Rattle.log_laws.specs.Records.{TableEntry, LogRecord, History, start, ◌▸◌, ◌▸▸◌, last_lsn, base_lsn, record_at}
 use Rattle.log_laws.specs.Checkpoint.{first_end, is_begin}
 use Rattle.log_laws.specs.Redo.{rec_lsn_of}
 use Rattle.log_laws.specs.Undo.{entry_for}
@@ -46,6 +49,10 @@ pub record HasSeen (m : ℕ) (log : History) (scan : CheckpointSoFar) : Type 0 w
   pub missing : scan.found ≡ None → base_of m log ≡ None
   pub begins : scan.found ≡ None → scan.begins ≡ is_begin (record_at log m)
 
+-- it looks at the record after this LSN, and has found that in each log which ends there
+abbrev pub SeesRecord : (lsn : ℕ) → LogRecord → (old new : CheckpointSoFar) → Type 0
+SeesRecord lsn r old new = (m : ℕ) (log : History) → last_lsn log ≡ lsn → HasSeen m log old → HasSeen m (log ▸ r) new
+
 -- BOTH TABLES
 -- a scan for both tables: the entries of the transactions, of which the first one of a transaction counts, and the pages, each with its
 -- RecLSN
@@ -60,6 +67,10 @@ pub record HasAnalysed (m : ℕ) (whole log : History) (scan : SeenTables) : Typ
   pub base : base_of m whole ≡ Some (transactions, dirty)
   pub entries_are : (t : ℕ) → entry_at t scan.entries ≡ analysed_entry t m (entry_for t transactions) log
   pub pages_are : (page : ℕ) → rec_lsn_of page scan.pages ≡ analysed_rec_lsn page m (rec_lsn_of page dirty) log
+
+-- it looks at the record after this LSN, which is seen so at a glance, and has found that in each log which ends there
+abbrev pub NotesRecord : (m lsn : ℕ) → Glance → (old new : SeenTables) → Type 0
+NotesRecord m lsn glance old new = (whole log : History) (r : LogRecord) → glance ≡ glance_of r → Fits r → last_lsn log ≡ lsn → HasAnalysed m whole log old → HasAnalysed m whole (log ▸ r) new
 
 -- no record of the log comes after the LSN m, since it ends there or before, or has no record; so its tables are those of the base
 abbrev pub ComesBefore : ℕ → History → Type 0

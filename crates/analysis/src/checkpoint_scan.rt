@@ -2,12 +2,12 @@
 
 ghost use Rattle.std.specs.Prelude.{◌≡◌, ◌≤◌, ◌<◌, ◌+◌, ◌^◌, ℕ, Some, None, is_some, IfOk, IfErr, IfSome, IfNone, OnOk, IsOkUnless};
 ghost use Rattle.page.specs.declared.fault.Fault.TheVariants.{NoResource, BadMaster};
-ghost use Rattle.log_laws.specs.Records.{History, start, ◌▸◌, last_lsn, record_at};
+ghost use Rattle.log_laws.specs.Records.{History, start, ◌▸◌, record_at};
 ghost use Rattle.wal.specs.Content.{shown};
 ghost use Rattle.wal.specs.Spelling.{Fits};
 ghost use Rattle.log_laws.specs.Checkpoint.{first_end, is_begin};
 ghost use Rattle.analysis.specs.Tables.{entry_at, IsBase, BaseFault};
-ghost use Rattle.analysis.specs.Passing.{HasSeen, IsEnd};
+ghost use Rattle.analysis.specs.Passing.{HasSeen, IsEnd, SeesRecord};
 
 use crate::base::{dirty_pages_of, transactions_of};
 use page::Fault;
@@ -65,8 +65,7 @@ impl CheckpointScan {
     pub fn take(&mut self, lsn: u64, view: &RecordView) -> Result<(), Fault>
         requires fits { Fits (shown view.now) }
         requires room { lsn + 1 < 2 ^ 64 }
-        ensures seen { OnOk result ((m : ℕ) (log : History) → last_lsn log ≡ lsn
-            → HasSeen m log self.old → HasSeen m (log ▸ shown view.now) self.new) }
+        ensures seen { OnOk result (SeesRecord lsn (shown view.now) self.old self.new) }
         ensures unchanged { IfErr result (λ _. self.new ≡ self.old) }
         ensures err { IsOkUnless result NoResource }
     {

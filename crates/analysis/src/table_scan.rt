@@ -6,14 +6,14 @@ ghost use Rattle.page.specs.declared.fault.Fault.TheVariants.{NoResource};
 ghost use Rattle.wal.specs.Glances.{glance_of};
 ghost use Rattle.wal.specs.Spelling.{Fits};
 ghost use Rattle.log_laws.specs.Meaning.{BasePages};
-ghost use Rattle.log_laws.specs.Records.{LogRecord, LogContent, History, ◌▸◌, history, last_lsn, base_lsn};
+ghost use Rattle.log_laws.specs.Records.{LogRecord, LogContent, History, history, base_lsn};
 ghost use Rattle.log_laws.specs.Redo.{rec_lsn_of};
 ghost use Rattle.log_laws.specs.Store.{Lawful};
 ghost use Rattle.log_laws.specs.Undo.{entry_for};
 ghost use Rattle.wal.specs.declared.sizes.TheConstants.{LARGEST_BASE};
 ghost use Rattle.tables.specs.Lawful.{AreTrue};
 ghost use Rattle.analysis.specs.Tables.{entry_at, IsBase, AreTablesOf};
-ghost use Rattle.analysis.specs.Passing.{HasAnalysed, ComesBefore};
+ghost use Rattle.analysis.specs.Passing.{HasAnalysed, ComesBefore, NotesRecord};
 ghost use Rattle.analysis.specs.Steps.{entry_seen, rec_lsn_after};
 
 use crate::Tables;
@@ -90,10 +90,7 @@ impl TableScan {
     pub fn take(&mut self, lsn: u64, glance: Glance, master: u64) -> Result<(), Fault>
         requires seen { (r : LogRecord) × (glance ≡ glance_of r) × Fits r }
         requires room { lsn + 1 < 2 ^ 64 }
-        ensures goes_on { OnOk result ((whole log : History) (r : LogRecord)
-            → glance ≡ glance_of r → Fits r → last_lsn log ≡ lsn
-            → HasAnalysed master whole log self.old
-            → HasAnalysed master whole (log ▸ r) self.new) }
+        ensures goes_on { OnOk result (NotesRecord master lsn glance self.old self.new) }
         ensures no_transaction_0 { OnOk result (entry_at 0 self.old.entries ≡ None
             → entry_at 0 self.new.entries ≡ None) }
         ensures err { IsOkUnless result NoResource }

@@ -1,12 +1,9 @@
 -- Calls that read a device again: one after another, and into a room that takes each frame.
-use Rattle.std.proofs.Common.{◌≡◌, ℕ, List, Option, Some, Result, Ok, refl, ◌∙◌, inl, inr, arith}
+use Rattle.std.proofs.Common.{◌≡◌, ℕ, List, Option, Some, Result, Ok, refl, ◌∙◌}
 use Rattle.std.specs.Prelude.{⊤, OnOk, Err}
 use Rattle.device.proofs.Reach.{grows_none, grows_on}
-use Rattle.pieces.specs.declared.mark.Mark.{Mark}
 use Rattle.passes.specs.declared.fault.PassFault.{PassFault}
-use Rattle.passes.specs.Marks.{LogCause}
-use Rattle.passes.specs.Calls.{IsRoom, HasRead}
-use Rattle.passes.specs.Next.{PieceFails}
+use Rattle.passes.specs.Calls.{HasRead}
 use Rattle.passes.proofs.Reached.{still_told, keeps_same, keeps_on}
 
 -- THE DEVICE is still as it was in this: no call has failed

@@ -17,7 +17,7 @@ use Rattle.wal.proofs.Causes.{no_fault_of_a_log}
 use Rattle.passes.specs.declared.fault.PassFault.{PassFault}
 use Rattle.passes.specs.declared.fault.PassFault.TheVariants as fault
 use Rattle.passes.specs.Marks.{LogCause, IsResource}
-use Rattle.passes.specs.Next.{ComesNext, IsBefore}
+use Rattle.passes.specs.Next.{IsBefore}
 use Rattle.passes.specs.Tables.{TablesCause}
 use Rattle.passes.proofs.Reached.{in_front}
 

@@ -9,7 +9,7 @@ use Rattle.pieces.specs.Pieces.{IsMark}
 use Rattle.passes.specs.declared.fault.PassFault.{PassFault}
 use Rattle.passes.specs.declared.fault.PassFault.TheVariants as fault
 use Rattle.passes.specs.declared.pass.Pass.{Ghosts as Pass}
-use Rattle.passes.specs.Marks.{IsResource, LogCause}
+use Rattle.passes.specs.Marks.{LogCause}
 use Rattle.passes.specs.Passes.{Stops, StopsFirst}
 
 module _ {P : Type 0} (pass : Pass P) where

@@ -3,15 +3,12 @@ use Rattle.std.proofs.Common.{◌≡◌, ℕ, zero, suc, ◌+◌, ◌-◌, ◌<�
 use Rattle.std.proofs.lemmas.Bool.{cases_lt}
 use Rattle.std.proofs.lemmas.List.{get_or-drop, get_or_default, length-drop}
 use Rattle.std.specs.List.Sorted.{IsNonDecreasingBy}
-use Rattle.page.specs.declared.fault.Fault.{Fault}
-use Rattle.page.specs.declared.fault.Fault.TheVariants.{NoResource, NoSuchPage}
 use Rattle.page.specs.declared.page.Page.{Page}
 use Rattle.page.specs.Store.{AreNumbered}
 use Rattle.log_laws.specs.Records.{LogContent, start, history, last_lsn, base_lsn}
 use Rattle.wal.specs.Reads.{Reads}
 use Rattle.log_laws.proofs.Histories.{first_at_base, record_above, record_within}
 use Rattle.tables.specs.Tables.{TablesContent}
-use Rattle.tables.specs.Pieces.{IsPieceOf}
 use Rattle.pieces.specs.declared.mark.Mark.{Mark}
 use Rattle.pieces.specs.Pieces.{IsMark}
 use Rattle.redo.specs.declared.wanted.Wanted.{Wanted}
@@ -19,8 +16,8 @@ use Rattle.redo.specs.Inputs.{InputContent, input_over}
 use Rattle.redo.specs.Parts.{redo_page_in, image_at}
 use Rattle.redo.specs.Routes.{skipped}
 use Rattle.redo.specs.OnePass.{AreUpTo}
-use Rattle.redo.specs.Passing.{TalliesSoFar, IsPieceFor}
-use Rattle.redo.specs.Redone.{IsLookedAt, AllExist, ExistBelow, RedoFault}
+use Rattle.redo.specs.Passing.{TalliesSoFar}
+use Rattle.redo.specs.Redone.{IsLookedAt, AllExist, ExistBelow}
 use Rattle.redo.proofs.LastRecords.{in_slot}
 use Rattle.redo.proofs.Stretches.{skipped_some}
 use Rattle.redo.proofs.Replay.{skips_none}

@@ -3,7 +3,7 @@ use Rattle.std.specs.Prelude.{◌≡◌, ℕ, ◌+◌, List, Option, Some, None,
 use Rattle.page.specs.declared.fault.Fault.{Fault}
 use Rattle.page.specs.declared.page.Page.{Page}
 use Rattle.changes.specs.declared.pages.Pages.{Ghosts as Pages}
-use Rattle.log_laws.specs.Records.{LogContent, History, history, base_lsn, last_lsn, ◌▸▸◌}
+use Rattle.log_laws.specs.Records.{LogContent, History, history, base_lsn, last_lsn}
 use Rattle.wal.specs.declared.glance.Glance.{Glance}
 use Rattle.wal.specs.Glances.{IsGlanceBehind}
 use Rattle.tables.specs.Pieces.{IsPieceOf}
@@ -41,15 +41,6 @@ IsTalliedTo whole images lsn scan = TalliedOrRefused whole images lsn scan.fault
 -- before the first record, its tables are empty
 abbrev pub HasBegun : SeenTables → Type 0
 HasBegun scan = (whole log : History) → ComesBefore 0 log → HasAnalysed 0 whole log scan
-
--- it has read a piece, for analysis
-abbrev pub AnalysesPiece : (piece : LogContent) → (old new : SeenTables) → Type 0
-AnalysesPiece piece old new = (whole log : History) → last_lsn log ≡ base_lsn (history piece) → HasAnalysed 0 whole log old → HasAnalysed 0 whole (log ▸▸ piece.records) new
-
--- and for redo
-abbrev pub TalliesPiece : (piece : LogContent) → (old new : ForwardScan) → Type 0
-TalliesPiece piece old new = (whole : LogContent) (images : List Page) → IsPieceOf (history whole) (history piece)
-    → IsTalliedTo whole images (base_lsn (history piece)) old → IsTalliedTo whole images (last_lsn (history piece)) new
 
 -- with what is between the log before a mark and the log before a later one: for analysis, and for redo of any pages
 abbrev pub ScansOn : (old new : ForwardScan) → (whole before after : LogContent) → Type 0

@@ -1,16 +1,11 @@
 -- What comes after a mark of a log (own).
-use Rattle.std.specs.Prelude.{◌≡◌, ◌⊎◌, ℕ, ◌+◌, ◌<◌, List, Option, Some}
-use Rattle.page.specs.declared.fault.Fault.TheVariants.{BadLength}
-use Rattle.log_laws.specs.Records.{LogContent, history, last_lsn, ◌⧺◌}
+use Rattle.std.specs.Prelude.{◌≡◌, ℕ, ◌<◌, List, Option}
+use Rattle.log_laws.specs.Records.{LogContent, history, last_lsn}
 use Rattle.wal.specs.Reads.{Reads}
-use Rattle.wal.specs.declared.sizes.TheConstants.{BASED_HEADER_BYTES, LONGEST_FRAME}
 use Rattle.tables.specs.Pieces.{IsPieceOf}
 use Rattle.device.specs.Rereading.{ReadsRest}
 use Rattle.pieces.specs.declared.mark.Mark.{Mark}
 use Rattle.pieces.specs.Pieces.{IsMark, ReachesMark}
-use Rattle.passes.specs.declared.fault.PassFault.{PassFault}
-use Rattle.passes.specs.declared.fault.PassFault.TheVariants as fault
-use Rattle.passes.specs.Marks.{IsResource, LogCause}
 use Rattle.passes.specs.Calls.{ForMark, ForLogAt}
 
 -- OF THE BYTES THAT A DEVICE HOLDS
@@ -34,4 +29,3 @@ pub record IsBefore (text : List ℕ) (whole before : LogContent) (mark : Mark) 
   pub is_end : end ≡ last_lsn (history whole)
   pub is_mark : IsMark text before mark
   pub is_before : mark.lsn < end
-

@@ -46,7 +46,7 @@ impl Pass for CheckpointScan {
 
     ghost stops_for_memory = { λ scan whole before. refl };
 
-    fn take(&mut self, lsn: u64, _glance: Glance, body: &[u8]) -> Result<(), Fault> {
+    fn look_at(&mut self, lsn: u64, _glance: Glance, body: &[u8]) -> Result<(), Fault> {
         let Some(record) = body_view(body) else {
             unreachable!()
         };
@@ -98,7 +98,7 @@ impl Pass for Analysis {
     ghost stops_for_memory = { λ scan whole before. refl };
 
     #[inline(always)]
-    fn take(&mut self, lsn: u64, glance: Glance, _body: &[u8]) -> Result<(), Fault> {
+    fn look_at(&mut self, lsn: u64, glance: Glance, _body: &[u8]) -> Result<(), Fault> {
         self.tables.take(lsn, glance, self.master)
     }
 

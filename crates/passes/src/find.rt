@@ -105,7 +105,7 @@ impl Pass for NoPass {
     ghost stops_for_memory = { λ scan whole before. tt };
 
     #[inline(always)]
-    fn take(&mut self, _lsn: u64, _glance: Glance, _body: &[u8]) -> Result<(), Fault> {
+    fn look_at(&mut self, _lsn: u64, _glance: Glance, _body: &[u8]) -> Result<(), Fault> {
         Ok(())
     }
 

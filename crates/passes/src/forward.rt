@@ -16,12 +16,12 @@ use pieces::{Mark, read_piece};
 use wal::{BASED_HEADER_BYTES, LARGEST_BASE};
 
 /// Reads the piece after a mark into the room, and gives its records to a pass. Returns the mark
-/// after the last of them, and how many bytes of the room are left after it. There is no record only
-/// if the log ends at the mark; these bytes are then the log's torn tail.
+/// after the last of them, and how many bytes of the room are left after it. If the log ends at the
+/// mark, both marks are the same, and these bytes are the log's torn tail.
 ///
 /// Errors: `Failed` if the source failed; those of [`read_log`](wal::read_log) for the log, if the
-/// piece shows one, and those of the pass. If the source does not keep its bytes, or if the room did
-/// not keep them, also `BadLength` with the mark's offset: the next frame does not fit in the room.
+/// piece shows one, and those of the pass. If the source does not keep its bytes, also `BadLength`
+/// with the mark's offset: no frame ends in the room.
 pub fn take_next<S: Reread, P: Pass>(
     source: &mut S,
     mark: Mark,

@@ -43,7 +43,7 @@ pub fn pass_over<P: Pass>(mark: Mark, piece: &[u8], pass: &mut P) -> Result<(u64
         };
         let (_, behind) = rest.split_at(4);
         let (body, _) = behind.split_at(size - 4);
-        pass.take(lsn, glance, body)?;
+        pass.look_at(lsn, glance, body)?;
         lsn += 1;
         end += size;
     }

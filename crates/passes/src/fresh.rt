@@ -4,11 +4,10 @@
 ghost use Rattle.std.specs.Prelude.{◌≡◌, ◌+◌, ◌≤◌, ◌<◌, ◌^◌, length, IfOk, IfErr, OnOk, Some, None, IsOkUnless};
 ghost use Rattle.device.specs.Reread.{IsReadThrough};
 ghost use Rattle.page.specs.declared.fault.Fault.TheVariants.{NoResource};
-ghost use Rattle.log_laws.specs.Records.{history, last_lsn, base_lsn};
 ghost use Rattle.wal.specs.declared.sizes.TheConstants.{LARGEST_BASE};
 ghost use Rattle.analysis.specs.Tables.{AreTablesOf};
 ghost use Rattle.redo.specs.Routes.{IsSeen};
-ghost use Rattle.passes.specs.Listing.{TalliesNext, HasBegun, AnalysesPiece, TalliesPiece, ScansOn, ForAnalysed, BeginsTallies, AreTalliedIn, AreRefused};
+ghost use Rattle.passes.specs.Listing.{TalliesNext, HasBegun, ScansOn, ForAnalysed, BeginsTallies, AreTalliedIn, AreRefused};
 ghost use Rattle.passes.specs.Calls.{IsRoom, HasRead, ForLog, FindsMarks, TextCause};
 ghost use Rattle.passes.specs.Tables.{HasNone0, AreTrueIfLawful, AreWithout0};
 
@@ -112,7 +111,7 @@ impl Pass for ForwardScan {
     ghost stops_for_memory = { λ scan whole before. refl };
 
     #[inline(always)]
-    fn take(&mut self, lsn: u64, glance: Glance, _body: &[u8]) -> Result<(), Fault> {
+    fn look_at(&mut self, lsn: u64, glance: Glance, _body: &[u8]) -> Result<(), Fault> {
         self.tables.take(lsn, glance, 0)?;
         self.fault = tally_next(&mut self.tallies, self.fault, glance, lsn);
         Ok(())

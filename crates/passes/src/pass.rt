@@ -52,7 +52,7 @@ pub trait Pass {
 
     /// Looks at the record after an LSN, given at a glance and by its body. After an error the pass
     /// cannot go on.
-    fn take(&mut self, lsn: u64, glance: Glance, body: &[u8]) -> Result<(), Fault>
+    fn look_at(&mut self, lsn: u64, glance: Glance, body: &[u8]) -> Result<(), Fault>
         requires ready { is_ready self.old lsn }
         requires room { lsn + 1 < 2 ^ 64 }
         requires next { HasNextRecord lsn glance body.now }

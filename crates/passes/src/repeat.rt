@@ -62,7 +62,7 @@ impl Pass for TallyScan {
     ghost stops_for_memory = { λ scan whole before images tables tallied. tt };
 
     #[inline(always)]
-    fn take(&mut self, lsn: u64, glance: Glance, _body: &[u8]) -> Result<(), Fault> {
+    fn look_at(&mut self, lsn: u64, glance: Glance, _body: &[u8]) -> Result<(), Fault> {
         self.take(lsn, glance)
     }
 

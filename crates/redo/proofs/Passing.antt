@@ -118,4 +118,3 @@ kept_on upto lsn tallies le kept = record {
   few = λ k t lt. omega (arith, kept.few k t lt, le);
   lasts = λ k slot t lt. omega (arith, kept.lasts k slot t lt, le);
 }
-

@@ -1,6 +1,7 @@
 -- PASSING. The tallies of redo while a log is read record after record, and what a piece has of it: each piece is a log, and begins after
 -- the last LSN of the one before it (own).
-use Rattle.std.specs.Prelude.{◌≡◌, ℕ, ◌<◌, ◌≤◌, List, Some, length, slice_index_or, replicate, All}
+use Rattle.std.specs.Prelude.{◌≡◌, ℕ, ◌+◌, ◌<◌, ◌≤◌, List, Some, length, slice_index_or, replicate, All}
+use Rattle.page.specs.declared.fault.Fault.{Fault}
 use Rattle.page.specs.declared.page.Page.{Page}
 use Rattle.page.specs.Store.{AreNumbered}
 use Rattle.page.specs.declared.profile.TheConstants.{SLOTS}
@@ -13,6 +14,10 @@ use Rattle.tables.specs.Pieces.{IsPieceOf}
 use Rattle.redo.specs.declared.tally.Tally.{Tally}
 use Rattle.redo.specs.Inputs.{InputContent, input_over}
 use Rattle.redo.specs.Parts.{redo_page_in, image_at, resolved}
+use Rattle.redo.specs.Changes.{NamesBelow}
+use Rattle.redo.specs.OnePass.{AreUpTo}
+use Rattle.redo.specs.Redone.{IsLookedAt}
+use Rattle.redo.specs.Routes.{NoteFault}
 
 -- the tallies of all pages, from which LSN on records are looked at, and an LSN above which none was counted
 pub record TalliesSoFar : Type 0 where
@@ -62,3 +67,15 @@ pub record IsRecordFor (input : InputContent) (redo_lsn lsn : ℕ) (glance : Gla
   pub entry : LogRecord
   pub there : record_at (history input.log) lsn ≡ Some entry
   pub seen_of : glance ≡ glance_of entry
+
+-- A SCAN LOOKS AT THE RECORD AFTER AN LSN, which is seen so at a glance: it has counted it, for each log that it can be of
+abbrev pub CountsRecord : (lsn : ℕ) → Glance → (old new : TalliesSoFar) → Type 0
+CountsRecord lsn glance old new = (input : InputContent) → IsRecordFor input old.redo_lsn (lsn + 1) glance → AreUpTo input lsn old.tallies → AreUpTo input (lsn + 1) new.tallies
+
+-- if redo looks at it, it is on no page that the store lacks
+abbrev pub FindsPage : (lsn : ℕ) → Glance → TalliesSoFar → Type 0
+FindsPage lsn glance scan = (r : LogRecord) → glance ≡ glance_of r → IsLookedAt scan.redo_lsn (lsn + 1) → NamesBelow (length scan.tallies) r
+
+-- redo looks at it, and it has this error
+abbrev pub TakeFault : (lsn : ℕ) → Glance → TalliesSoFar → Fault → Type 0
+TakeFault lsn glance scan e = IsLookedAt scan.redo_lsn (lsn + 1) × ((r : LogRecord) → glance ≡ glance_of r → NoteFault (length scan.tallies) (lsn + 1) r e)

@@ -11,9 +11,8 @@ ghost use Rattle.tables.specs.Tables.{TablesContent};
 ghost use Rattle.changes.specs.Numbered.{StayNumbered};
 ghost use Rattle.redo.specs.Inputs.{InputContent, input_over};
 ghost use Rattle.redo.specs.OnePass.{AreUpTo};
-ghost use Rattle.redo.specs.Redone.{IsLookedAt};
 ghost use Rattle.redo.specs.Routes.{IsSeen, NoteFault};
-ghost use Rattle.redo.specs.Passing.{ListEach, IsRecordFor};
+ghost use Rattle.redo.specs.Passing.{ListEach, IsRecordFor, CountsRecord, FindsPage, TakeFault};
 ghost use Rattle.redo.specs.Wanted.{IsWanted, HoldAllBut, ShowAllBut, ShowFinished};
 ghost use Rattle.redo.specs.declared.wanted.Wanted.{Wanted};
 ghost use Rattle.redo.specs.Changes.{NamesBelow};
@@ -143,16 +142,9 @@ impl TallyScan {
         requires seen { IsSeen glance }
         requires upto { self.old.upto ≤ lsn }
         requires room { lsn + 1 < 2 ^ 64 }
-        // For each log that the record can be of: if the tallies have all records before it, they
-        // then have it too.
-        ensures goes_on { OnOk result ((input : InputContent)
-            → IsRecordFor input self.old.redo_lsn (lsn + 1) glance
-            → AreUpTo input lsn self.old.tallies → AreUpTo input (lsn + 1) self.new.tallies) }
-        ensures exists { OnOk result ((r : LogRecord) → glance ≡ glance_of r
-            → IsLookedAt self.old.redo_lsn (lsn + 1) → NamesBelow (length self.old.tallies) r) }
-        ensures fault { IfErr result (λ e. IsLookedAt self.old.redo_lsn (lsn + 1)
-            × ((r : LogRecord) → glance ≡ glance_of r
-            → NoteFault (length self.old.tallies) (lsn + 1) r e)) }
+        ensures goes_on { OnOk result (CountsRecord lsn glance self.old self.new) }
+        ensures exists { OnOk result (FindsPage lsn glance self.old) }
+        ensures fault { IfErr result (TakeFault lsn glance self.old) }
         ensures unchanged { OnErr result (self.new ≡ self.old) }
 
         ensures count { length self.new.tallies ≡ length self.old.tallies }

@@ -19,15 +19,17 @@ moved-requires g c =
 
 pub returns-in-Err-clause-fault : goal.returns-in-Err-clause-fault
 returns-in-Err-clause-fault g c =
-    inl (c.in-Err.fault, c.moved.ensures,
-    taken_cause g.P.Pass c.args.mark c.args.piece.now (λ i. omega (arith, c.type_inv.piece i)) (omega arith) c.args.pass.now c.loop-found.pass c.loop-found.lsn c.loop-found.end c.loop-found.invariant.taken
-    c.split_at.result.1.now c.split_at.ensures.back c.in-Err.fault (sym c.seen_at.ensures ∙ c.in-Err.is))
+    inl (
+      c.in-Err.fault,
+      c.moved.ensures,
+      taken_cause g.P.Pass c.args.mark c.args.piece.now (λ i. omega (arith, c.type_inv.piece i)) (omega arith) c.args.pass.now c.loop-found.pass c.loop-found.lsn c.loop-found.end c.loop-found.invariant.taken
+          c.split_at.result.1.now c.split_at.ensures.back c.in-Err.fault (sym c.seen_at.ensures ∙ c.in-Err.is),
+    )
 
 pub returns-in_default-clause-read : goal.returns-in_default-clause-read
 returns-in_default-clause-read g c =
     taken_all g.P.Pass c.args.mark c.args.piece.now (λ i. omega (arith, c.type_inv.piece i)) (omega arith) c.args.pass.now c.loop-found.pass c.loop-found.lsn c.loop-found.end c.loop-found.invariant.taken
     c.split_at.result.1.now c.split_at.ensures.back (sym c.seen_at.ensures ∙ c.in-Ok.is ∙ ap Ok c.in_default.is)
-
 
 pub split_at-requires-in-loop-found : goal.split_at-requires-in-loop-found
 split_at-requires-in-loop-found g c =
@@ -36,30 +38,38 @@ split_at-requires-in-loop-found g c =
     omega (arith, is.0, is.2)
 
 pub overflow_sub-size : goal.overflow_sub-size
-overflow_sub-size g c = omega (arith, (sized g.P.Pass c.args.mark c.args.piece.now (λ i. omega (arith, c.type_inv.piece i)) (omega arith) c.args.pass.now c.loop-found.pass c.loop-found.lsn c.loop-found.end c.loop-found.invariant.taken
-    c.split_at.result.1.now c.split_at.ensures.back c.in-Some.size c.in-Some.glance (sym c.seen_at.ensures ∙ c.in-Ok.is ∙ ap Ok c.in-Some.is)).0)
+overflow_sub-size g c = omega (
+  arith,
+  (sized g.P.Pass c.args.mark c.args.piece.now (λ i. omega (arith, c.type_inv.piece i)) (omega arith) c.args.pass.now c.loop-found.pass c.loop-found.lsn c.loop-found.end c.loop-found.invariant.taken
+      c.split_at.result.1.now c.split_at.ensures.back c.in-Some.size c.in-Some.glance (sym c.seen_at.ensures ∙ c.in-Ok.is ∙ ap Ok c.in-Some.is)).0,
+)
 
 pub split_at-requires-in-loop-found-2 : goal.split_at-requires-in-loop-found-2
 split_at-requires-in-loop-found-2 g c =
-    omega (arith, c.split_at-in-loop-found.ensures.back_len,
-    (sized g.P.Pass c.args.mark c.args.piece.now (λ i. omega (arith, c.type_inv.piece i)) (omega arith) c.args.pass.now c.loop-found.pass c.loop-found.lsn c.loop-found.end c.loop-found.invariant.taken
-    c.split_at.result.1.now c.split_at.ensures.back c.in-Some.size c.in-Some.glance (sym c.seen_at.ensures ∙ c.in-Ok.is ∙ ap Ok c.in-Some.is)).2)
+    omega (
+      arith,
+      c.split_at-in-loop-found.ensures.back_len,
+      (sized g.P.Pass c.args.mark c.args.piece.now (λ i. omega (arith, c.type_inv.piece i)) (omega arith) c.args.pass.now c.loop-found.pass c.loop-found.lsn c.loop-found.end c.loop-found.invariant.taken
+          c.split_at.result.1.now c.split_at.ensures.back c.in-Some.size c.in-Some.glance (sym c.seen_at.ensures ∙ c.in-Ok.is ∙ ap Ok c.in-Some.is)).2,
+    )
 
-pub take-requires-clause-next : goal.take-requires-clause-next
-take-requires-clause-next g c =
+pub look_at-requires-clause-next : goal.look_at-requires-clause-next
+look_at-requires-clause-next g c =
     has_next g.P.Pass c.args.mark c.args.piece.now (λ i. omega (arith, c.type_inv.piece i)) (omega arith) c.args.pass.now c.loop-found.pass c.loop-found.lsn c.loop-found.end c.loop-found.invariant.taken
     c.split_at.result.1.now c.split_at.ensures.back c.in-Some.size c.in-Some.glance (sym c.seen_at.ensures ∙ c.in-Ok.is ∙ ap Ok c.in-Some.is)
     c.split_at-in-loop-found-2.result.0.now (c.split_at-in-loop-found-2.ensures.front ∙ ap (take (c.in-Some.size - 4)) c.split_at-in-loop-found.ensures.back)
 
-pub returns-in_err-take-clause-fault : goal.returns-in_err-take-clause-fault
-returns-in_err-take-clause-fault g c =
+pub returns-in_err-look_at-clause-fault : goal.returns-in_err-look_at-clause-fault
+returns-in_err-look_at-clause-fault g c =
     let exit = err_from_is_err_and c.from_residual.result c.from_residual.ensures.1 in
     rw (exit.1, exit.2)
-    (inr (c.in_err-take.ensures.named,
-    stops_there g.P.Pass c.args.mark c.args.piece.now (λ i. omega (arith, c.type_inv.piece i)) (omega arith) c.args.pass.now c.loop-found.pass c.loop-found.lsn c.loop-found.end c.loop-found.invariant.taken
-    c.split_at.result.1.now c.split_at.ensures.back c.in-Some.size c.in-Some.glance (sym c.seen_at.ensures ∙ c.in-Ok.is ∙ ap Ok c.in-Some.is)
-    c.split_at-in-loop-found-2.result.0.now (c.split_at-in-loop-found-2.ensures.front ∙ ap (take (c.in-Some.size - 4)) c.split_at-in-loop-found.ensures.back)
-    g.P.Pass.stops_later c.in_err-take.field-0.0 c.in_err-take.ensures.fault))
+    (inr (
+      c.in_err-look_at.ensures.named,
+      stops_there g.P.Pass c.args.mark c.args.piece.now (λ i. omega (arith, c.type_inv.piece i)) (omega arith) c.args.pass.now c.loop-found.pass c.loop-found.lsn c.loop-found.end c.loop-found.invariant.taken
+          c.split_at.result.1.now c.split_at.ensures.back c.in-Some.size c.in-Some.glance (sym c.seen_at.ensures ∙ c.in-Ok.is ∙ ap Ok c.in-Some.is)
+          c.split_at-in-loop-found-2.result.0.now (c.split_at-in-loop-found-2.ensures.front ∙ ap (take (c.in-Some.size - 4)) c.split_at-in-loop-found.ensures.back)
+          g.P.Pass.stops_later c.in_err-look_at.field-0.0 c.in_err-look_at.ensures.fault,
+    ))
 
 pub loop-found-smaller : goal.loop-found-smaller
 loop-found-smaller g c =
@@ -69,11 +79,11 @@ loop-found-smaller g c =
 
 pub loop-found-preserved : goal.loop-found-preserved
 loop-found-preserved g c = record {
-  ready = c.in_ok-take.ensures.ready;
-  keeps = g.P.Pass.stays_same c.args.pass.now c.loop-found.pass c.take.new.self c.loop-found.invariant.keeps c.in_ok-take.ensures.keeps;
+  ready = c.in_ok-look_at.ensures.ready;
+  keeps = g.P.Pass.stays_same c.args.pass.now c.loop-found.pass c.look_at.new.self c.loop-found.invariant.keeps c.in_ok-look_at.ensures.keeps;
   taken =
       taken_more g.P.Pass c.args.mark c.args.piece.now (λ i. omega (arith, c.type_inv.piece i)) (omega arith) c.args.pass.now c.loop-found.pass c.loop-found.lsn c.loop-found.end c.loop-found.invariant.taken
-    c.split_at.result.1.now c.split_at.ensures.back c.in-Some.size c.in-Some.glance (sym c.seen_at.ensures ∙ c.in-Ok.is ∙ ap Ok c.in-Some.is)
+      c.split_at.result.1.now c.split_at.ensures.back c.in-Some.size c.in-Some.glance (sym c.seen_at.ensures ∙ c.in-Ok.is ∙ ap Ok c.in-Some.is)
       c.split_at-in-loop-found-2.result.0.now (c.split_at-in-loop-found-2.ensures.front ∙ ap (take (c.in-Some.size - 4)) c.split_at-in-loop-found.ensures.back)
-      g.P.Pass.goes_on c.take.new.self c.in_ok-take.ensures.passed;
+      g.P.Pass.goes_on c.look_at.new.self c.in_ok-look_at.ensures.passed;
 }

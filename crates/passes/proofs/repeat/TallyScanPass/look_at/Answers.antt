@@ -5,7 +5,7 @@ use Rattle.passes.specs.Redoing.{AreTalliedUpTo}
 use Rattle.passes.proofs.Calls.{on_ok_both}
 use Rattle.passes.proofs.OneByOne.{ends_one_later, there_in}
 use Rattle.passes.proofs.NextRecord.{taken_next, stopped_next}
-use Rattle.passes.proofs.repeat.TallyScanPass.take.Goals as goal
+use Rattle.passes.proofs.repeat.TallyScanPass.look_at.Goals as goal
 
 pub returns-clause-passed : goal.returns-clause-passed
 returns-clause-passed c = on_ok_both c.take.result

@@ -3,7 +3,7 @@ use Rattle.std.proofs.lemmas.Result.{on_ok_weaker}
 use Rattle.log_laws.specs.Records.{history}
 use Rattle.log_laws.proofs.Histories.{history_push}
 use Rattle.analysis.specs.Passing.{HasAnalysed}
-use Rattle.passes.proofs.analyse.AnalysisPass.take.Goals as goal
+use Rattle.passes.proofs.analyse.AnalysisPass.look_at.Goals as goal
 
 pub returns-clause-passed : goal.returns-clause-passed
 returns-clause-passed c = on_ok_weaker c.take.result

@@ -6,7 +6,7 @@ use Rattle.passes.specs.Listing.{IsTalliedTo}
 use Rattle.passes.specs.declared.fresh.ForwardScan.{ForwardScan}
 use Rattle.passes.specs.Pieces.{one_record}
 use Rattle.passes.proofs.OneByOne.{ends_one_later, seen_behind}
-use Rattle.passes.proofs.fresh.ForwardScanPass.take.Goals as goal
+use Rattle.passes.proofs.fresh.ForwardScanPass.look_at.Goals as goal
 
 pub returns-clause-passed : goal.returns-clause-passed
 returns-clause-passed c = λ r next whole before own at.

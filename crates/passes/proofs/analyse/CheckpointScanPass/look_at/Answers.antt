@@ -6,7 +6,7 @@ use Rattle.log_laws.specs.Records.{history, ◌▸◌}
 use Rattle.log_laws.proofs.Histories.{history_push}
 use Rattle.wal.specs.Content.{shown}
 use Rattle.analysis.specs.Passing.{HasSeen}
-use Rattle.passes.proofs.analyse.CheckpointScanPass.take.Goals as goal
+use Rattle.passes.proofs.analyse.CheckpointScanPass.look_at.Goals as goal
 
 pub returns-clause-passed : goal.returns-clause-passed
 returns-clause-passed c = on_ok_weaker c.take.result
