@@ -126,7 +126,10 @@ wal/frame_size.rt        len       -
 dump/choice.rt           change    RecordView::change
 dump/choice.rt           tx        RecordView::tx
 aries_c/room.rt          len       -
-passes/fresh.rt          note      TableScan::note, TallyScan::note
+passes/fresh.rt          take      TableScan::take, TallyScan::take
+passes/analyse.rt        take      CheckpointScan::take, TableScan::take
+passes/repeat.rt         take      TallyScan::take
+redo/tally_scan.rt       note      TallyScan::note
 passes/fresh.rt          finish    TableScan::finish
 passes/repeat.rt         finish    TallyScan::finish
 passes/gather.rt         take      Gathering::take
@@ -145,7 +148,7 @@ recovery/store_changes.rt finish   LsnReader::finish
 recovery/store_changes.rt flush    FileSink::flush
 recovery/copying.rt      flush     FileSink::flush
 recovery/in_pieces.rt    write     CopiedLog::write, ContinuedLog::write
-passes/forward.rt        take      CheckpointScan::take, Analysis::take, TallyScan::take, ForwardScan::take, NoPass::take
+passes/frames.rt         look_at   CheckpointScan::look_at, Analysis::look_at, TallyScan::look_at, ForwardScan::look_at, NoPass::look_at
 passes/forward.rt        is_done   CheckpointScan::is_done, Analysis::is_done, TallyScan::is_done, ForwardScan::is_done, NoPass::is_done
 held_store/held.rt       extend    Images::extend
 held_store/held.rt       copy_from HeldStore::copy_from, Images::copy_from
@@ -170,8 +173,8 @@ CUTS = {
         Notes::fail Notes::pass_over Board::stop recovery/first_reading.rt:check_log''',
     'no checkpoint': '''wal/checkpoint.rt FrameHead::bytes wal/frame.rt:checkpoint_at wal/frame.rt:transactions_at wal/frame.rt:dirties_at
         analysis/base.rt:transactions_of analysis/base.rt:dirty_pages_of passes/in_pieces.rt:go_by_passes
-        CheckpointScan::take CheckpointScan::is_done Analysis::take Analysis::is_done TallyScan::take TallyScan::is_done''',
-    'updates and commits alone are read': '''wal/frame.rt:compensation_at wal/next.rt:compensation_end wal/glance.rt:compensation_glance
+        CheckpointScan::look_at CheckpointScan::is_done Analysis::look_at Analysis::is_done TallyScan::look_at TallyScan::is_done''',
+    'updates and commits alone are read': '''wal/frame.rt:compensation_at wal/next.rt:compensation_seen wal/glance.rt:compensation_glance
         wal/image.rt:compensation_image
         analysis/scan.rt:prepared wal/field.rt:put_entries wal/field.rt:put_dirties wal/field.rt:entry_bytes
         wal/field.rt:put_dirty wal/field.rt:dirty_bytes wal/field.rt:state_code''',
@@ -200,8 +203,8 @@ CUTS = {
 FEW = ['nothing fails', 'no checkpoint', 'updates and commits alone are read']
 # each way: its name, the most functions that it is to have, where it begins, and what it does not take
 WAYS = [
-    ('recover, 3 records', 342, 'aries_cli/main.rt:main', FEW + ['a recovery', 'new files', 'in pieces', 'one worker']),
-    ('recover in place, 3 records', 385, 'aries_cli/main.rt:main', FEW + ['a recovery', 'in place', 'in pieces', 'one worker']),
+    ('recover, 3 records', 338, 'aries_cli/main.rt:main', FEW + ['a recovery', 'new files', 'in pieces', 'one worker']),
+    ('recover in place, 3 records', 381, 'aries_cli/main.rt:main', FEW + ['a recovery', 'in place', 'in pieces', 'one worker']),
     ('recover in memory, 3 records, 1 worker', 282, 'aries_cli/main.rt:main', FEW + ['a recovery', 'new files', 'in memory', 'one worker']),
     ('recover in memory, 3 records, 4 workers', 317, 'aries_cli/main.rt:main',
      FEW + ['a recovery', 'new files', 'in memory', 'several workers', 'a short log']),

@@ -4,7 +4,7 @@ ghost use Rattle.std.specs.Prelude.{◌≡◌, ◌≤◌, ◌<◌, ◌+◌, ◌^
 ghost use Rattle.wal.specs.Frames.{next_at, Fails};
 ghost use Rattle.wal.specs.Stretches.{HasNoFrame};
 
-use crate::next::next_at;
+use crate::next::seen_at;
 use page::Fault;
 
 /// How many bytes come after the last frame of a log, which ends at `end`, if they are a torn tail.
@@ -20,7 +20,7 @@ pub fn torn_from(lsn: u64, before: usize, bytes: &[u8], end: usize) -> Result<us
     ensures fault { IfErr result (λ e. Fails e (next_at lsn (before + end) (drop end bytes.now))) }
 {
     let (_, tail) = bytes.split_at(end);
-    match next_at(lsn, before + end, tail) {
+    match seen_at(lsn, before + end, tail) {
         Ok(None) => Ok(tail.len()),
         Ok(Some(_)) => unreachable!(),
         Err(fault) => Err(fault),

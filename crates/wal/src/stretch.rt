@@ -6,7 +6,7 @@ ghost use Rattle.wal.specs.Frames.{next_at};
 ghost use Rattle.wal.specs.Stretches.{IsStretch, IfStretch, LeavesRoom, HasNoFrame};
 
 use crate::field::u64_at;
-use crate::next::next_at;
+use crate::next::seen_at;
 use crate::offsets::Offsets;
 use page::Fault;
 use std::alloc::Global;
@@ -68,10 +68,10 @@ pub fn read_on(bytes: &[u8], known: Stretch, upto: usize) -> Result<Stretch, Fau
     } = known;
     while end < upto {
         let (_, rest) = bytes.split_at(end);
-        let Ok(found) = next_at(next, end, rest) else {
+        let Ok(found) = seen_at(next, end, rest) else {
             break;
         };
-        let Some(size) = found else {
+        let Some((size, _)) = found else {
             break;
         };
         offsets.push(end)?;
@@ -95,7 +95,7 @@ fn lsn_in_front(bytes: &[u8]) -> Option<u64>
     if lsn > LARGEST_GUESS {
         return None;
     }
-    match next_at(lsn, 0, bytes) {
+    match seen_at(lsn, 0, bytes) {
         Ok(Some(_)) => Some(lsn),
         _ => None,
     }

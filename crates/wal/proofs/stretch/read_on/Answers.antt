@@ -1,13 +1,16 @@
 use Rattle.std.proofs.Common.{◌≡◌, ◌+◌, ◌≤◌, ◌∷◌, [], length, length-append, drop, Ok, None, Some, subst, sym, ap, ◌∙◌, arith}
 use Rattle.wal.specs.Frames.{next_at, size_in}
-use Rattle.wal.proofs.NextFrame.{sized}
+use Rattle.wal.specs.Glances.{seen_in}
+use Rattle.wal.proofs.NextFrame.{size_of_fault, size_of_frame, size_of_no_frame, sized}
 use Rattle.wal.proofs.Stretches.{frames_more, frame_takes, none_sized, fault_sized}
 use Rattle.wal.proofs.stretch.read_on.Goals.{else-loop-end-test, then-loop-end-test+in_default, then-loop-end-test+in-Ok+in_default-found}
 use Rattle.wal.proofs.stretch.read_on.Goals as goal
 
 -- a frame of this size is there
 here : (c : goal.In_ok-push) → size_in (next_at c.loop-end.next c.loop-end.end (drop c.loop-end.end c.args.bytes.now)) ≡ Ok (Some c.in-Some.size)
-here c = ap (λ rest. size_in (next_at c.loop-end.next c.loop-end.end rest)) (sym c.split_at.ensures.back) ∙ (cc)
+here c =
+    let next = next_at c.loop-end.next c.loop-end.end (drop c.loop-end.end c.args.bytes.now) in
+    size_of_frame next c.in-Some.size c.in-Some.field-0-1 (ap (λ rest. seen_in (next_at c.loop-end.next c.loop-end.end rest)) (sym c.split_at.ensures.back) ∙ sym c.seen_at.ensures ∙ c.in-Ok.is ∙ ap Ok c.in-Some.is)
 
 -- a frame takes at least 13 bytes, and there are as many as it takes
 takes : (c : goal.In_ok-push) → (13 ≤ c.in-Some.size) × (c.loop-end.end + c.in-Some.size ≤ length c.args.bytes.now)
@@ -43,7 +46,9 @@ returns-clause-end c = λ test place r size there.
     elim c.loop-end-test.branch [
       | else-loop-end-test w ↦ absurd (omega (arith, w.loop-end-test.false, test))
       | then-loop-end-test+in_default w ↦
-          fault_sized bytes next end w.in_default.field-0 (λ i. omega (arith, c.type_inv.bytes i)) (ap (λ rest. size_in (next_at next end rest)) (sym w.split_at.ensures.back) ∙ sym w.next_at.ensures ∙ w.in_default.is) place r size frame
+          fault_sized bytes next end w.in_default.field-0 (λ i. omega (arith, c.type_inv.bytes i))
+          (size_of_fault (next_at next end (drop end bytes)) w.in_default.field-0 (ap (λ rest. seen_in (next_at next end rest)) (sym w.split_at.ensures.back) ∙ sym w.seen_at.ensures ∙ w.in_default.is)) place r size frame
       | then-loop-end-test+in-Ok+in_default-found w ↦
-          none_sized bytes next end None (Unit {0}) (λ i. omega (arith, c.type_inv.bytes i)) (ap (λ rest. size_in (next_at next end rest)) (sym w.split_at.ensures.back) ∙ sym w.next_at.ensures ∙ w.in-Ok.is ∙ ap Ok w.in_default-found.is) tt place r size frame
+          none_sized bytes next end None (Unit {0}) (λ i. omega (arith, c.type_inv.bytes i))
+          (size_of_no_frame (next_at next end (drop end bytes)) (ap (λ rest. seen_in (next_at next end rest)) (sym w.split_at.ensures.back) ∙ sym w.seen_at.ensures ∙ w.in-Ok.is ∙ ap Ok w.in_default-found.is)) tt place r size frame
     ]
