@@ -204,8 +204,8 @@ impl TallyTable {
     }
 
     /// Counts the record at an LSN, which is in a slot, for its page, if the page lacks the record.
-    /// A page to which a record was applied lacks it. The only error is `NoResource`; nothing has
-    /// changed then.
+    /// Each page to which a record was applied lacks it. The only error is `NoResource`; nothing
+    /// has changed then.
     #[inline(always)]
     pub fn count(
         &mut self,
