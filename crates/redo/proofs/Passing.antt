@@ -1,6 +1,6 @@
 -- The tallies while a log is read: before the first record, with one more, and what a piece has of the whole log.
-use Rattle.std.proofs.Common.{◌≡◌, ◌≢◌, ℕ, zero, suc, replicate, ◌<◌, ◌≤◌, true, eqb, eq-eqb, List, [], ◌∷◌, ◌++◌, All, Some, length, get_or, set, refl, sym, ap, ◌∙◌, subst, inl, inr, arith, length-append}
-use Rattle.std.proofs.lemmas.Bool.{cases_Bool, cases_eq, cases_lt, cond_both}
+use Rattle.std.proofs.Common.{◌≡◌, ◌≢◌, ℕ, zero, suc, replicate, ◌<◌, ◌≤◌, true, ◌&&◌, not, eqb, leb, ltb, eq-eqb, List, [], ◌∷◌, ◌++◌, All, Option, None, Some, length, get_or, set, refl, sym, ap, ◌∙◌, subst, inl, inr, arith, length-append}
+use Rattle.std.proofs.lemmas.Bool.{cases_Bool, cases_eq, cases_lt, cond_both, and_parts, and_from, le-leb, leb-true, lt-ltb}
 use Rattle.std.proofs.lemmas.List.{get_or-set_same, get_or-set_other, length-set, set_past}
 use Rattle.page.specs.declared.page.Page.{Page}
 use Rattle.tables.specs.Tables.{TablesContent}
@@ -12,7 +12,8 @@ use Rattle.redo.specs.Inputs.{input_over}
 use Rattle.redo.specs.Changes.{counted}
 use Rattle.redo.specs.Parts.{redo_page_in, image_at}
 use Rattle.redo.specs.OnePass.{AreUpTo}
-use Rattle.redo.specs.Passing.{StandAtNumbers, LastsAreWithin, AreScanned, ListEach, AreBegunIn}
+use Rattle.redo.specs.Passing.{StandAtNumbers, LastsAreWithin, AreRedoneBy, AreScanned, ListEach, AreBegunIn}
+use Rattle.redo.proofs.Advance.{redone_above}
 use Rattle.redo.proofs.OnePass.{each_more}
 use Rattle.page.specs.declared.profile.TheConstants.{SLOTS}
 
@@ -36,6 +37,24 @@ set_within xs slot lsn each i =
 
 counted_lasts : (redo_lsn lsn slot : ℕ) (t : Tally) → ((i : ℕ) → get_or t.lasts i 0 ≤ lsn) → (i : ℕ) → get_or (counted redo_lsn lsn slot t).lasts i 0 ≤ lsn
 counted_lasts redo_lsn lsn slot t each i = cond_both (is_redone t.rec_lsn redo_lsn t.lsn lsn) _ t (λ (x : Tally). get_or x.lasts i 0 ≤ lsn) (λ _. set_within t.lasts slot lsn each i) (λ _. each i)
+
+-- a page that lacks a record lacks a later one too, whatever its PageLSN below that is
+redone_after : (rec_lsn : Option ℕ) (redo_lsn k l lsn after : ℕ) → is_redone rec_lsn redo_lsn k lsn ≡ true → lsn ≤ after → l < after → is_redone rec_lsn redo_lsn l after ≡ true
+redone_after None redo_lsn k l lsn after e le lt = absurd (cc)
+redone_after (Some x) redo_lsn k l lsn after e le lt =
+    let listed = and_parts (leb x lsn) (not (eqb redo_lsn 0) && (leb redo_lsn lsn && ltb k lsn)) e in
+    let some = and_parts (not (eqb redo_lsn 0)) (leb redo_lsn lsn && ltb k lsn) listed.1 in
+    let from = and_parts (leb redo_lsn lsn) (ltb k lsn) some.1 in
+    and_from (leb x after) (not (eqb redo_lsn 0) && (leb redo_lsn after && ltb l after)) (le-leb x after (omega (arith, leb-true x lsn listed.0, le)))
+    (and_from (not (eqb redo_lsn 0)) (leb redo_lsn after && ltb l after) some.0
+    (and_from (leb redo_lsn after) (ltb l after) (le-leb redo_lsn after (omega (arith, leb-true redo_lsn lsn from.0, le))) (lt-ltb l after lt)))
+
+counted_redone : (redo_lsn lsn slot after : ℕ) (t : Tally) → lsn < after → ((t.applied ≡ 0 → ⊥) → is_redone t.rec_lsn redo_lsn t.lsn lsn ≡ true)
+    → ((counted redo_lsn lsn slot t).applied ≡ 0 → ⊥) → is_redone (counted redo_lsn lsn slot t).rec_lsn redo_lsn (counted redo_lsn lsn slot t).lsn after ≡ true
+counted_redone redo_lsn lsn slot after t lt before =
+    cond_both (is_redone t.rec_lsn redo_lsn t.lsn lsn) _ t (λ (x : Tally). (x.applied ≡ 0 → ⊥) → is_redone x.rec_lsn redo_lsn x.lsn after ≡ true)
+    (λ e _. redone_after t.rec_lsn redo_lsn t.lsn lsn lsn after e (omega (arith, lt)) lt)
+    (λ _ some. redone_after t.rec_lsn redo_lsn t.lsn t.lsn lsn after (before some) (omega (arith, lt)) (omega (arith, redone_above t.rec_lsn redo_lsn t.lsn lsn (before some), lt)))
 
 -- what holds for all except one, and for that one
 one_set : (P Q : ℕ → Tally → Type 0) (tallies new : List Tally) (number : ℕ) (f : Tally → Tally) → number < length tallies
@@ -65,6 +84,12 @@ module _ (redo_lsn lsn slot number : ℕ) (tallies new : List Tally) (below : nu
   lasts_on each k i t lt =
       one_set (λ _ t. (i : ℕ) → get_or t.lasts i 0 ≤ lsn) (λ _ t. (i : ℕ) → get_or t.lasts i 0 ≤ lsn) tallies new number (counted redo_lsn lsn slot) below is (λ k t e. e) (λ t e. counted_lasts redo_lsn lsn slot t e)
       (λ k t lt i. each k i t lt) k t lt i
+
+  pub later_on : AreRedoneBy redo_lsn lsn tallies → (after : ℕ) → lsn < after → AreRedoneBy redo_lsn after new
+  later_on each after lt =
+      one_set (λ _ t. (t.applied ≡ 0 → ⊥) → is_redone t.rec_lsn redo_lsn t.lsn lsn ≡ true) (λ _ t. (t.applied ≡ 0 → ⊥) → is_redone t.rec_lsn redo_lsn t.lsn after ≡ true) tallies new number (counted redo_lsn lsn slot) below is
+      (λ _ t e some. redone_after t.rec_lsn redo_lsn t.lsn t.lsn lsn after (e some) (omega (arith, lt)) (omega (arith, redone_above t.rec_lsn redo_lsn t.lsn lsn (e some), lt)))
+      (λ t e. counted_redone redo_lsn lsn slot after t lt e) each
 
 -- TABLES THAT LIST EACH PAGE below a count, no transaction, and the LSN to redo from
 abbrev pub listing : (count first : ℕ) → List (ℕ × ℕ)
@@ -99,9 +124,9 @@ module _ (images : List Page) (tables : TablesContent) (tallies : List Tally) (a
   }
 
 -- one more tally, of a page to which no record is applied
-pub scanned_more : (tallies : List Tally) (tally : Tally) → tally.number ≡ length tallies → tally.applied ≡ 0 → tally.lasts ≡ replicate SLOTS 0 → AreScanned 0 tallies
-    → AreScanned 0 (tallies ++ tally ∷ [])
-scanned_more tallies tally number applied lasts before =
+pub scanned_more : (redo_lsn : ℕ) (tallies : List Tally) (tally : Tally) → tally.number ≡ length tallies → tally.applied ≡ 0 → tally.lasts ≡ replicate SLOTS 0 → AreScanned redo_lsn 0 tallies
+    → AreScanned redo_lsn 0 (tallies ++ tally ∷ [])
+scanned_more redo_lsn tallies tally number applied lasts before =
     let count = length-append tallies (tally ∷ []) in
     record {
       numbered = λ k t lt. each_more (λ k t. t.number ≡ k) (length tallies) tallies tally refl before.numbered number k t (omega (arith, lt, count));
@@ -109,12 +134,15 @@ scanned_more tallies tally number applied lasts before =
       lasts = λ k slot t lt.
           each_more (λ _ t. get_or t.lasts slot 0 ≤ 0) (length tallies) tallies tally refl (λ k t lt. before.lasts k slot t lt)
           (omega (arith, ap (λ xs. get_or xs slot 0) lasts, zeros SLOTS slot)) k t (omega (arith, lt, count));
+      later = λ lsn up k t lt.
+          each_more (λ _ t. (t.applied ≡ 0 → ⊥) → is_redone t.rec_lsn redo_lsn t.lsn lsn ≡ true) (length tallies) tallies tally refl (before.later lsn up) (λ some. absurd (some applied)) k t (omega (arith, lt, count));
     }
 
 -- up to a later LSN
-pub kept_on : (upto lsn : ℕ) (tallies : List Tally) → upto ≤ lsn → AreScanned upto tallies → AreScanned lsn tallies
-kept_on upto lsn tallies le kept = record {
+pub kept_on : (redo_lsn upto lsn : ℕ) (tallies : List Tally) → upto ≤ lsn → AreScanned redo_lsn upto tallies → AreScanned redo_lsn lsn tallies
+kept_on redo_lsn upto lsn tallies le kept = record {
   numbered = kept.numbered;
   few = λ k t lt. omega (arith, kept.few k t lt, le);
   lasts = λ k slot t lt. omega (arith, kept.lasts k slot t lt, le);
+  later = λ after lt. kept.later after (omega (arith, lt, le));
 }

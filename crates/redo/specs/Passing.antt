@@ -1,6 +1,6 @@
 -- PASSING. The tallies of redo while a log is read record after record, and what a piece has of it: each piece is a log, and begins after
 -- the last LSN of the one before it (own).
-use Rattle.std.specs.Prelude.{◌≡◌, ℕ, ◌+◌, ◌<◌, ◌≤◌, List, Some, length, slice_index_or, replicate, All}
+use Rattle.std.specs.Prelude.{◌≡◌, ℕ, ◌+◌, ◌<◌, ◌≤◌, List, Some, length, slice_index_or, replicate, All, true}
 use Rattle.page.specs.declared.fault.Fault.{Fault}
 use Rattle.page.specs.declared.page.Page.{Page}
 use Rattle.page.specs.Store.{AreNumbered}
@@ -8,7 +8,7 @@ use Rattle.page.specs.declared.profile.TheConstants.{SLOTS}
 use Rattle.log_laws.specs.Records.{LogRecord, LogContent, history, record_at, base_lsn, start}
 use Rattle.wal.specs.declared.glance.Glance.{Glance}
 use Rattle.wal.specs.Glances.{glance_of}
-use Rattle.log_laws.specs.Redo.{rec_lsn_of}
+use Rattle.log_laws.specs.Redo.{rec_lsn_of, is_redone}
 use Rattle.tables.specs.Tables.{TablesContent}
 use Rattle.tables.specs.Pieces.{IsPieceOf}
 use Rattle.redo.specs.declared.tally.Tally.{Tally}
@@ -33,11 +33,16 @@ StandAtNumbers tallies = (k : ℕ) (t : Tally) → k < length tallies → (slice
 abbrev pub LastsAreWithin : (lsn : ℕ) → List Tally → Type 0
 LastsAreWithin lsn tallies = (k slot : ℕ) (t : Tally) → k < length tallies → slice_index_or (slice_index_or tallies k t).lasts slot 0 ≤ lsn
 
--- what holds for the tallies of each scan, if no record above an LSN was counted
-pub record AreScanned (upto : ℕ) (tallies : List Tally) : Type 0 where
+-- each page to which a record was applied lacks the record at this LSN
+abbrev pub AreRedoneBy : (redo_lsn lsn : ℕ) → List Tally → Type 0
+AreRedoneBy redo_lsn lsn tallies = All (λ (t : Tally). (t.applied ≡ 0 → ⊥) → is_redone t.rec_lsn redo_lsn t.lsn lsn ≡ true) tallies
+
+-- what holds for the tallies of each scan that looks at records from redo_lsn on, if no record above an LSN was counted
+pub record AreScanned (redo_lsn upto : ℕ) (tallies : List Tally) : Type 0 where
   pub numbered : StandAtNumbers tallies
   pub few : All (λ (t : Tally). t.applied ≤ upto) tallies
   pub lasts : LastsAreWithin upto tallies
+  pub later : (lsn : ℕ) → upto < lsn → AreRedoneBy redo_lsn lsn tallies
 
 -- the tables list each page below the count from this LSN on, and redo begins there
 pub record ListEach (count first : ℕ) (tables : TablesContent) : Type 0 where

@@ -48,7 +48,7 @@ impl Model for TallyScan {
 
     ghost view = { λ s. record { tallies = s.tallies; redo_lsn = s.redo_lsn; upto = s.upto } };
 
-    ghost invariant = { λ s. AreScanned s.upto s.tallies };
+    ghost invariant = { λ s. AreScanned s.redo_lsn s.upto s.tallies };
 }
 
 impl TallyScan {

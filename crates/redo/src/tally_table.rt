@@ -7,20 +7,20 @@ ghost use Rattle.page.specs.declared.profile.TheConstants.{SLOTS};
 ghost use Rattle.page.specs.Store.{AreNumbered};
 ghost use Rattle.log_laws.specs.Records.{LogRecord, history, record_at};
 ghost use Rattle.wal.specs.Glances.{glance_of};
-ghost use Rattle.log_laws.specs.Redo.{rec_lsn_of};
+ghost use Rattle.log_laws.specs.Redo.{rec_lsn_of, is_redone};
 ghost use Rattle.tables.specs.Tables.{TablesContent};
 ghost use Rattle.redo.specs.Inputs.{InputContent};
 ghost use Rattle.redo.specs.Changes.{NamesBelow, advance, counted};
 ghost use Rattle.redo.specs.Routes.{NoteFault, IsSeen};
 ghost use Rattle.redo.specs.Parts.{resolved};
-ghost use Rattle.redo.specs.Passing.{StandAtNumbers, LastsAreWithin, AreScanned, IsBegunIn, AreBegunIn, ListEach};
-ghost use Rattle.redo.specs.Placed.{untouched, kept_at, tally_of, tallies_of, IsPlaced, ArePlaced};
+ghost use Rattle.redo.specs.Passing.{StandAtNumbers, LastsAreWithin, AreRedoneBy, AreScanned, IsBegunIn, AreBegunIn, ListEach};
+ghost use Rattle.redo.specs.Placed.{untouched, tallies_of, ArePlaced, page_first, kept_first};
 ghost use Rattle.redo.specs.Wanted.{IsLastIn};
 ghost use Rattle.redo.specs.declared.tally.Tally.{Tally};
 ghost use Rattle.redo.specs.declared.tally_table.PlacedPage.{PlacedPage};
 ghost use Rattle.redo.specs.declared.wanted.Wanted.{Wanted};
 
-use crate::tally::{Tally, is_redone};
+use crate::tally::is_redone;
 use crate::wanted::{Wanted, want_slots};
 use changes::Pages;
 use page::{Fault, SLOTS};
@@ -29,23 +29,24 @@ use std::marker::Model;
 use tables::Tables;
 use wal::Glance;
 
-/// A page of the store: its number, its PageLSN before a record was applied to it, and the place of
-/// its tally among those that are kept, counted from 1; 0 if none is kept.
+/// A page of the store: its number, its PageLSN as far as redo has come, how many records were
+/// applied to it, and the place of its last records among those that are kept, counted from 1; 0 if
+/// no record was applied.
 #[derive(Clone, Copy)]
 pub struct PlacedPage {
     pub number: u32,
     pub place: u32,
     pub lsn: u64,
+    pub applied: u64,
 }
 
-/// The tallies of all pages of a store. A page takes 16 bytes. It takes a whole tally more if a
-/// record was applied to it, or if its RecLSN is not that of most pages. Contracts see the list of
-/// the tallies, each at the number of its page.
+/// The tallies of all pages of a store. A page takes 40 bytes, and 128 more once a record was
+/// applied to it. Contracts see the list of the tallies, each at the number of its page.
 #[derive(Drop)]
 pub struct TallyTable {
     pages: Vec<PlacedPage>,
-    kept: Vec<Tally>,
-    rec_lsn: Option<u64>,
+    rec_lsns: Vec<Option<u64>>,
+    kept: Vec<[u64; SLOTS]>,
 }
 
 impl Model for TallyTable {
@@ -56,22 +57,22 @@ impl Model for TallyTable {
 
     ghost Value = { List Tally };
 
-    ghost view = { λ t. tallies_of t.kept.items t.rec_lsn t.pages.items };
+    ghost view = { λ t. tallies_of t.kept.items t.rec_lsns.items t.pages.items };
 
-    ghost invariant = { λ t. ArePlaced t.kept.items t.pages.items };
+    ghost invariant = { λ t. ArePlaced t.kept.items t.rec_lsns.items t.pages.items };
 }
 
-/// How many slots the tally of a page has. A function of its own, as `count_slots`.
+/// How many slots a page has. A function of its own, as `count_slots`.
 fn count_lasts(lasts: &[u64; SLOTS]) -> usize
     ensures { length lasts.now ≡ SLOTS }
 {
     lasts.len()
 }
 
-/// Adds a tally after others. Returns its place, counted from 1. The only error is `NoResource`;
-/// nothing has changed then.
-fn keep(kept: &mut Vec<Tally>, tally: Tally) -> Result<u32, Fault>
-    ensures kept { OnOk result (kept.new.items ≡ kept.old.items ++ tally ∷ []) }
+/// Adds the last records of a page after others. Returns their place, counted from 1. The only
+/// error is `NoResource`; nothing has changed then.
+fn keep(kept: &mut Vec<[u64; SLOTS]>, lasts: [u64; SLOTS]) -> Result<u32, Fault>
+    ensures kept { OnOk result (kept.new.items ≡ kept.old.items ++ lasts ∷ []) }
     ensures place { IfOk result (λ place. place ≡ length kept.old.items + 1) }
     ensures same { OnErr result (kept.new.items ≡ kept.old.items) }
     ensures err { IsOkUnless result NoResource }
@@ -80,80 +81,57 @@ fn keep(kept: &mut Vec<Tally>, tally: Tally) -> Result<u32, Fault>
     if count >= u32::MAX as usize {
         return Err(Fault::NoResource);
     }
-    kept.push(tally)?;
+    kept.push(lasts)?;
     Ok(count as u32 + 1)
 }
 
-/// Adds the tally of a page to which no record was applied, after others, if its RecLSN is not this
-/// one of most pages. Returns its place, 0 if it was not added. The only error is `NoResource`.
-fn keep_untouched(
-    kept: &mut Vec<Tally>,
-    number: u32,
-    lsn: u64,
-    rec_lsn: Option<u64>,
-    most: Option<u64>,
-) -> Result<u32, Fault>
-    ensures placed { IfOk result (λ place. IsPlaced kept.new.items number
-        (record { number = number; place = place; lsn = lsn })) }
-    ensures tally { IfOk result (λ place. kept_at kept.new.items place (untouched number lsn most)
-        ≡ untouched number lsn rec_lsn) }
-    ensures others { (pages : List PlacedPage) → ArePlaced kept.old.items pages
-        → ArePlaced kept.new.items pages }
-    ensures same { (pages : List PlacedPage) → ArePlaced kept.old.items pages
-        → tallies_of kept.new.items most pages ≡ tallies_of kept.old.items most pages }
-    ensures err { IsOkUnless result NoResource }
-{
-    if rec_lsn == most {
-        return Ok(0);
-    }
-    Ok(keep(kept, Tally::begin(number, lsn, rec_lsn))?)
-}
-
 /// Counts the record at an LSN, which is in a slot, for a page that has no place, if the page lacks
-/// the record. Its tally is then added after others. The only error is `NoResource`; nothing has
-/// changed then. It is not inlined: the tally that it makes would be set to zeros at each record.
+/// the record. The page then has a place. The only error is `NoResource`; nothing has changed then.
+/// It is not inlined: the slots that it adds would be set to zeros at each record.
 #[inline(never)]
 fn count_first(
     page: &mut PlacedPage,
-    kept: &mut Vec<Tally>,
+    kept: &mut Vec<[u64; SLOTS]>,
     rec_lsn: Option<u64>,
     redo_lsn: u64,
     lsn: u64,
     slot: usize,
 ) -> Result<(), Fault>
-    requires place { page.old.place ≡ 0 }
     requires slot { slot < SLOTS }
-    ensures placed { (k : ℕ) → IsPlaced kept.old.items k page.old
-        → IsPlaced kept.new.items k page.new }
-    ensures counted { OnOk result (tally_of kept.new.items rec_lsn page.new
-        ≡ counted redo_lsn lsn slot (untouched page.old.number page.old.lsn rec_lsn)) }
-    ensures others { (pages : List PlacedPage) → ArePlaced kept.old.items pages
-        → ArePlaced kept.new.items pages }
-    ensures same { (pages : List PlacedPage) → ArePlaced kept.old.items pages
-        → tallies_of kept.new.items rec_lsn pages ≡ tallies_of kept.old.items rec_lsn pages }
+    requires room { page.old.applied + 1 < 2 ^ 64 }
+    ensures page { OnOk result (page.new ≡ page_first
+        (is_redone rec_lsn redo_lsn page.old.lsn lsn) (length kept.old.items) lsn page.old) }
+    ensures kept { OnOk result (kept.new.items ≡ kept_first
+        (is_redone rec_lsn redo_lsn page.old.lsn lsn) lsn slot kept.old.items) }
     ensures unchanged { OnErr result (page.new ≡ page.old) }
+    ensures same { OnErr result (kept.new.items ≡ kept.old.items) }
     ensures err { IsOkUnless result NoResource }
 {
     if !is_redone(rec_lsn, redo_lsn, page.lsn, lsn) {
         return Ok(());
     }
-    let mut tally = Tally::begin(page.number, page.lsn, rec_lsn);
-    tally.count(redo_lsn, lsn, slot);
-    page.place = keep(kept, tally)?;
+    let mut lasts = [0; SLOTS];
+    lasts[slot] = lsn;
+    let place = keep(kept, lasts)?;
+    *page = PlacedPage {
+        number: page.number,
+        place,
+        lsn,
+        applied: page.applied + 1,
+    };
     Ok(())
 }
 
 impl TallyTable {
-    /// No tallies, with room for those of this many pages, most of which have this RecLSN. The only
-    /// error is `NoResource`.
-    fn with_capacity(alloc: Global, count: usize, rec_lsn: Option<u64>) -> Result<TallyTable, Fault>
+    /// No tallies, with room for those of this many pages. The only error is `NoResource`.
+    fn with_capacity(alloc: Global, count: usize) -> Result<TallyTable, Fault>
         ensures none { IfOk result (λ table. table ≡ []) }
         ensures err { IsOkUnless result NoResource }
     {
         Ok(TallyTable {
             pages: Vec::with_capacity(alloc, count)?,
+            rec_lsns: Vec::with_capacity(alloc, count)?,
             kept: Vec::new(alloc),
-            rec_lsn,
         })
     }
 
@@ -164,8 +142,17 @@ impl TallyTable {
         ensures added { OnOk result (self.new ≡ self.old ++ untouched number lsn rec_lsn ∷ []) }
         ensures err { IsOkUnless result NoResource }
     {
-        let place = keep_untouched(&mut self.kept, number, lsn, rec_lsn, self.rec_lsn)?;
-        self.pages.push(PlacedPage { number, place, lsn })?;
+        self.rec_lsns.push(rec_lsn)?;
+        let page = PlacedPage {
+            number,
+            place: 0,
+            lsn,
+            applied: 0,
+        };
+        if self.pages.push(page).is_err() {
+            self.rec_lsns.pop();
+            return Err(Fault::NoResource);
+        }
         Ok(())
     }
 
@@ -186,10 +173,9 @@ impl TallyTable {
         if page.place == 0 {
             return page.lsn;
         }
-        let tally = &self.kept[page.place as usize - 1];
-        // For the proof: how many slots a tally has.
-        let _lasts = count_lasts(&tally.lasts);
-        tally.lsn
+        // For the proof: how many slots a page has.
+        let _lasts = count_lasts(&self.kept[page.place as usize - 1]);
+        page.lsn
     }
 
     /// How many records were applied to a page.
@@ -197,11 +183,7 @@ impl TallyTable {
         requires { number < length self.now }
         ensures { (t : Tally) → result ≡ (slice_index_or self.now number t).applied }
     {
-        let place = self.pages[number].place;
-        if place == 0 {
-            return 0;
-        }
-        self.kept[place as usize - 1].applied
+        self.pages[number].applied
     }
 
     /// Adds, after others, the records that are the last in the slots of a page. The only error is
@@ -217,13 +199,13 @@ impl TallyTable {
         if page.place == 0 {
             return Ok(());
         }
-        let tally = &self.kept[page.place as usize - 1];
-        want_slots(page.number, &tally.lasts, wanted)?;
+        want_slots(page.number, &self.kept[page.place as usize - 1], wanted)?;
         Ok(())
     }
 
     /// Counts the record at an LSN, which is in a slot, for its page, if the page lacks the record.
-    /// The only error is `NoResource`; nothing has changed then.
+    /// Each page to which a record was applied lacks it. The only error is `NoResource`; nothing
+    /// has changed then.
     #[inline(always)]
     pub fn count(
         &mut self,
@@ -235,18 +217,21 @@ impl TallyTable {
         requires page { number < length self.old }
         requires slot { slot < SLOTS }
         requires room { All (λ t. t.applied + 1 < 2 ^ 64) self.old }
+        requires later { AreRedoneBy redo_lsn lsn self.old }
         ensures counted { OnOk result ((t : Tally) → self.new ≡ slice_set self.old number
             (counted redo_lsn lsn slot (slice_index_or self.old number t))) }
         ensures same { OnErr result (self.new ≡ self.old) }
         ensures err { IsOkUnless result NoResource }
     {
-        let place = self.pages[number].place;
-        if place != 0 {
-            self.kept[place as usize - 1].count(redo_lsn, lsn, slot);
+        let page = &mut self.pages[number];
+        if page.place == 0 {
+            let rec_lsn = self.rec_lsns[number];
+            count_first(page, &mut self.kept, rec_lsn, redo_lsn, lsn, slot)?;
             return Ok(());
         }
-        let page = &mut self.pages[number];
-        count_first(page, &mut self.kept, self.rec_lsn, redo_lsn, lsn, slot)?;
+        page.lsn = lsn;
+        page.applied += 1;
+        self.kept[page.place as usize - 1][slot] = lsn;
         Ok(())
     }
 }
@@ -279,12 +264,12 @@ pub fn begin_each<P: Pages>(alloc: Global, pages: &P, tables: &Tables) -> Result
         → AreBegunIn shown tables.now tallies) }
     ensures count { IfOk result (λ tallies. length tallies ≡ P.count pages.now) }
     // Numbers, counts and last records do not depend on what the pages hold.
-    ensures scanned { IfOk result (λ tallies. (upto : ℕ) → AreScanned upto tallies) }
+    ensures scanned { IfOk result (λ tallies. (redo_lsn upto : ℕ)
+        → AreScanned redo_lsn upto tallies) }
     ensures err { IsOkUnless result NoResource }
 {
     let count = page_count(pages)?;
-    // Most pages are not listed as dirty.
-    let mut tallies = TallyTable::with_capacity(alloc, count as usize, None)?;
+    let mut tallies = TallyTable::with_capacity(alloc, count as usize)?;
     for number in 0..count {
         tallies.push(number, lsn_of(pages, number), tables.rec_lsn(number))?;
     }
@@ -303,11 +288,12 @@ pub fn begin_each_listed<P: Pages>(
         → ListEach (P.count pages.now) first tables → AreBegunIn shown tables tallies) }
     ensures count { IfOk result (λ tallies. length tallies ≡ P.count pages.now) }
     // Numbers, counts and last records do not depend on what the pages hold.
-    ensures scanned { IfOk result (λ tallies. (upto : ℕ) → AreScanned upto tallies) }
+    ensures scanned { IfOk result (λ tallies. (redo_lsn upto : ℕ)
+        → AreScanned redo_lsn upto tallies) }
     ensures err { IsOkUnless result NoResource }
 {
     let count = page_count(pages)?;
-    let mut tallies = TallyTable::with_capacity(alloc, count as usize, Some(first))?;
+    let mut tallies = TallyTable::with_capacity(alloc, count as usize)?;
     for number in 0..count {
         tallies.push(number, lsn_of(pages, number), Some(first))?;
     }
@@ -327,10 +313,12 @@ pub fn count_seen(
     requires seen { IsSeen glance }
     requires numbered { StandAtNumbers tallies.old }
     requires few { All (λ t. t.applied < lsn) tallies.old }
+    requires later { AreRedoneBy redo_lsn lsn tallies.old }
     ensures count { length tallies.new ≡ length tallies.old }
     ensures numbered { StandAtNumbers tallies.new }
     ensures few { All (λ t. t.applied ≤ lsn) tallies.new }
     ensures lasts { LastsAreWithin lsn tallies.old → LastsAreWithin lsn tallies.new }
+    ensures later { (after : ℕ) → lsn < after → AreRedoneBy redo_lsn after tallies.new }
     ensures each { OnOk result ((input : InputContent) (r : LogRecord) (k : ℕ) (t : Tally)
         → input.redo_lsn ≡ redo_lsn → glance ≡ glance_of r
         → record_at (history input.log) lsn ≡ Some r → k < length tallies.old

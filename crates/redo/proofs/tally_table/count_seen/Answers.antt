@@ -6,7 +6,7 @@ use Rattle.redo.specs.Placed.{untouched}
 use Rattle.redo.specs.declared.tally.Tally.{Tally}
 use Rattle.redo.proofs.Replay.{page_of_cell}
 use Rattle.redo.proofs.OnePass.{placed}
-use Rattle.redo.proofs.Passing.{numbered_on, few_on, lasts_on}
+use Rattle.redo.proofs.Passing.{numbered_on, few_on, lasts_on, later_on}
 use Rattle.redo.proofs.tally_table.count_seen.Goals as goal
 
 pub returns-then-number-len-clause-fault : goal.returns-then-number-len-clause-fault
@@ -28,6 +28,9 @@ returns-clause-few c = few_on c.args.redo_lsn c.args.lsn c.in-Some.slot c.in-Som
 
 pub returns-clause-lasts : goal.returns-clause-lasts
 returns-clause-lasts c = lasts_on c.args.redo_lsn c.args.lsn c.in-Some.slot c.in-Some.page c.args.tallies.now c.count.new.self (omega (arith, c.if-number-len.false, c.len.ensures)) c.in_ok-count.ensures.counted
+
+pub returns-clause-later : goal.returns-clause-later
+returns-clause-later c = later_on c.args.redo_lsn c.args.lsn c.in-Some.slot c.in-Some.page c.args.tallies.now c.count.new.self (omega (arith, c.if-number-len.false, c.len.ensures)) c.in_ok-count.ensures.counted c.requires.later
 
 pub returns-clause-each : goal.returns-clause-each
 returns-clause-each c = λ input r k t same seen there lt.

@@ -1,82 +1,61 @@
-use Rattle.std.proofs.Common.{◌≡◌, ◌+◌, ◌-◌, ◌<◌, set, sym, ap, ◌∙◌, subst, arith}
-use Rattle.std.proofs.lemmas.List.{get_or_default, map-set}
+use Rattle.std.proofs.Common.{◌+◌, ◌<◌, set, sym, ap, ◌∙◌, subst, arith}
 use Rattle.redo.specs.declared.tally.Tally.{Tally}
-use Rattle.redo.specs.declared.tally_table.PlacedPage.{PlacedPage}
-use Rattle.redo.specs.Changes.{counted}
-use Rattle.redo.specs.Placed.{untouched, tally_of, tallies_of}
-use Rattle.redo.proofs.Passing.{counted_number}
-use Rattle.redo.proofs.Placed.{in_pages, is_placed, its_first, its_place, in_kept, its_kept, kept_number, placed_kept, tallies_kept, placed_set}
+use Rattle.redo.specs.Placed.{ArePlaced, tallies_of, tally_of, kept_first}
+use Rattle.redo.proofs.Placed.{in_pages, its_tally, first_placed, first_tallies, counted_tallies}
+use Rattle.log_laws.specs.Redo.{is_redone}
 use Rattle.redo.proofs.tally_table.TallyTable.count.Goals as goal
 
-pub count-requires-clause-room : goal.count-requires-clause-room
-count-requires-clause-room c =
+pub count_first-requires-clause-room : goal.count_first-requires-clause-room
+count_first-requires-clause-room c =
     let inside = c.self.inside in
-    let page = c.index.result.now in
-    let entry = c.index_mut.result.now in
-    let same = its_kept inside.kept.items inside.rec_lsn inside.pages.items c.args.self.now c.args.number page c.self.view_is c.self.invariant c.requires.page c.index.ensures c.if-place-ne0.true entry entry ∙ sym c.index_mut.ensures.value in
-    subst (λ (t : Tally). t.applied + 1 < 18446744073709551616) same (c.requires.room c.args.number entry c.requires.page)
+    let page = c.index_mut-page.result.now in
+    let tally = tally_of inside.kept.items inside.rec_lsns.items page in
+    subst (λ (t : Tally). t.applied + 1 < 18446744073709551616) (its_tally inside.kept.items inside.rec_lsns.items inside.pages.items c.args.self.now c.args.number page c.self.view_is c.self.invariant c.requires.page c.index_mut-page.ensures.value tally)
+    (c.requires.room c.args.number tally c.requires.page)
 
-pub invariant_of-self : goal.invariant_of-self
-invariant_of-self c =
+pub invariant_of-self-then-page-eq0 : goal.invariant_of-self-then-page-eq0
+invariant_of-self-then-page-eq0 c =
     let inside = c.self.inside in
     let kept = inside.kept.items in
-    let pages = inside.pages.items in
-    let page = c.index.result.now in
-    let entry = c.index_mut.result.now in
-    let number = c.args.number in
-    let own : c.count.new.self.number ≡ number =
-    ap (λ (t : Tally). t.number) c.count.ensures ∙ counted_number c.args.redo_lsn c.args.lsn c.args.slot entry ∙ ap (λ (t : Tally). t.number) c.index_mut.ensures.value
-    ∙ kept_number kept inside.rec_lsn pages c.args.self.now number page c.self.view_is c.self.invariant c.requires.page c.index.ensures c.if-place-ne0.true entry in
-    placed_kept kept pages number (page.place - 1) c.count.new.self c.self.invariant (in_pages kept inside.rec_lsn pages c.args.self.now number page c.self.view_is c.self.invariant c.requires.page c.index.ensures)
-    (its_place kept inside.rec_lsn pages c.args.self.now number page c.self.view_is c.self.invariant c.requires.page c.index.ensures c.if-place-ne0.true)
-    (in_kept kept inside.rec_lsn pages c.args.self.now number page c.self.view_is c.self.invariant c.requires.page c.index.ensures c.if-place-ne0.true) own
-
-pub returns-then-place-ne0-clause-counted : goal.returns-then-place-ne0-clause-counted
-returns-then-place-ne0-clause-counted c = λ t.
-    let inside = c.self.inside in
-    let kept = inside.kept.items in
-    let pages = inside.pages.items in
-    let page = c.index.result.now in
-    let entry = c.index_mut.result.now in
-    let number = c.args.number in
-    let new = c.count.new.self in
-    let own : new.number ≡ number =
-    ap (λ (t : Tally). t.number) c.count.ensures ∙ counted_number c.args.redo_lsn c.args.lsn c.args.slot entry ∙ ap (λ (t : Tally). t.number) c.index_mut.ensures.value
-    ∙ kept_number kept inside.rec_lsn pages c.args.self.now number page c.self.view_is c.self.invariant c.requires.page c.index.ensures c.if-place-ne0.true entry in
-    let same = its_kept kept inside.rec_lsn pages c.args.self.now number page c.self.view_is c.self.invariant c.requires.page c.index.ensures c.if-place-ne0.true t entry ∙ sym c.index_mut.ensures.value in
-    tallies_kept kept pages number (page.place - 1) new c.self.invariant (in_pages kept inside.rec_lsn pages c.args.self.now number page c.self.view_is c.self.invariant c.requires.page c.index.ensures)
-    (its_place kept inside.rec_lsn pages c.args.self.now number page c.self.view_is c.self.invariant c.requires.page c.index.ensures c.if-place-ne0.true)
-    (in_kept kept inside.rec_lsn pages c.args.self.now number page c.self.view_is c.self.invariant c.requires.page c.index.ensures c.if-place-ne0.true) own inside.rec_lsn
-    ∙ ap (λ ts. set ts number new) c.self.view_is
-    ∙ ap (set c.args.self.now number) (c.count.ensures ∙ ap (counted c.args.redo_lsn c.args.lsn c.args.slot) (sym same))
-
-pub invariant_of-self-2 : goal.invariant_of-self-2
-invariant_of-self-2 c =
-    let inside = c.self.inside in
-    let kept = inside.kept.items in
+    let rec_lsns = inside.rec_lsns.items in
     let pages = inside.pages.items in
     let page = c.index_mut-page.result.now in
     let number = c.args.number in
-    let counted = c.in_ok-count_first.ensures in
-    placed_set c.count_first.new.kept.items pages number c.count_first.new.page (counted.others pages c.self.invariant)
-    (in_pages kept inside.rec_lsn pages c.args.self.now number page c.self.view_is c.self.invariant c.requires.page c.index_mut-page.ensures.value)
-    (counted.placed number (is_placed kept inside.rec_lsn pages c.args.self.now number page c.self.view_is c.self.invariant c.requires.page c.index_mut-page.ensures.value))
+    let first = c.in_ok-count_first.ensures in
+    let lacks = is_redone c.index-rec_lsn.result.now c.args.redo_lsn page.lsn c.args.lsn in
+    let new = kept_first lacks c.args.lsn c.args.slot kept in
+    subst (λ ks. ArePlaced ks rec_lsns (set pages number c.count_first.new.page)) (sym first.kept)
+    (subst (λ p. ArePlaced new rec_lsns (set pages number p)) (sym first.page)
+    (first_placed kept rec_lsns pages c.args.self.now number page c.self.view_is c.self.invariant c.requires.page c.index_mut-page.ensures.value c.if-page-eq0.true c.args.redo_lsn c.args.lsn c.args.slot lacks))
+
+pub returns-then-page-eq0-clause-counted : goal.returns-then-page-eq0-clause-counted
+returns-then-page-eq0-clause-counted c = λ t.
+    let inside = c.self.inside in
+    let kept = inside.kept.items in
+    let rec_lsns = inside.rec_lsns.items in
+    let pages = inside.pages.items in
+    let page = c.index_mut-page.result.now in
+    let number = c.args.number in
+    let first = c.in_ok-count_first.ensures in
+    let new = kept_first (is_redone c.index-rec_lsn.result.now c.args.redo_lsn page.lsn c.args.lsn) c.args.lsn c.args.slot kept in
+    let lt = in_pages kept rec_lsns pages c.args.self.now number page c.self.view_is c.self.invariant c.requires.page c.index_mut-page.ensures.value in
+    ap (λ ks. tallies_of ks rec_lsns (set pages number c.count_first.new.page)) first.kept
+    ∙ ap (λ p. tallies_of new rec_lsns (set pages number p)) first.page
+    ∙ first_tallies kept rec_lsns pages c.args.self.now number page c.self.view_is c.self.invariant c.requires.page c.index_mut-page.ensures.value c.if-page-eq0.true c.args.redo_lsn c.args.lsn c.args.slot
+    c.index-rec_lsn.result.now t c.index-rec_lsn.ensures (omega (arith, lt, c.self.invariant.count))
+
+pub overflow_add-page : goal.overflow_add-page
+overflow_add-page c =
+    let inside = c.self.inside in
+    let page = c.index_mut-page.result.now in
+    let tally = tally_of inside.kept.items inside.rec_lsns.items page in
+    let room : page.applied + 1 < 18446744073709551616 =
+    subst (λ (t : Tally). t.applied + 1 < 18446744073709551616) (its_tally inside.kept.items inside.rec_lsns.items inside.pages.items c.args.self.now c.args.number page c.self.view_is c.self.invariant c.requires.page c.index_mut-page.ensures.value tally)
+    (c.requires.room c.args.number tally c.requires.page) in
+    search (arith, room)
 
 pub returns-clause-counted : goal.returns-clause-counted
 returns-clause-counted c = λ t.
     let inside = c.self.inside in
-    let kept = inside.kept.items in
-    let pages = inside.pages.items in
-    let page = c.index_mut-page.result.now in
-    let number = c.args.number in
-    let rec_lsn = inside.rec_lsn in
-    let new = c.count_first.new.kept.items in
-    let first = untouched page.number page.lsn rec_lsn in
-    let step = counted c.args.redo_lsn c.args.lsn c.args.slot in
-    let lt = in_pages kept rec_lsn pages c.args.self.now number page c.self.view_is c.self.invariant c.requires.page c.index_mut-page.ensures.value in
-    let none : page.place ≡ 0 =
-    omega (arith, c.if-place-ne0.false, ap (λ (p : PlacedPage). p.place) (c.index_mut-page.ensures.value ∙ get_or_default pages number page c.index.result.now lt ∙ sym c.index.ensures)) in
-    map-set (tally_of new rec_lsn) pages number c.count_first.new.page
-    ∙ ap (set (tallies_of new rec_lsn pages) number) c.in_ok-count_first.ensures.counted
-    ∙ ap (λ ts. set ts number (step first)) (c.in_ok-count_first.ensures.same pages c.self.invariant ∙ c.self.view_is)
-    ∙ ap (λ x. set c.args.self.now number (step x)) (sym (its_first kept rec_lsn pages c.args.self.now number page c.self.view_is c.self.invariant c.requires.page c.index_mut-page.ensures.value t none))
+    counted_tallies inside.kept.items inside.rec_lsns.items inside.pages.items c.args.self.now c.args.number c.index_mut-page.result.now c.self.view_is c.self.invariant c.requires.page c.index_mut-page.ensures.value c.if-page-eq0.false
+    c.args.redo_lsn c.args.lsn c.args.slot c.index_mut.result.now c.index_mut.ensures.value t (c.requires.later c.args.number t c.requires.page)

@@ -1,23 +1,19 @@
-use Rattle.std.proofs.Common.{◌≡◌, ◌++◌, ◌∷◌, [], List, length, sym, ap, ap₂, ◌∙◌, subst, arith}
-use Rattle.std.proofs.lemmas.List.{map_push, length-map}
+use Rattle.std.proofs.Common.{◌≡◌, ◌++◌, ◌∷◌, [], List, cond, length, ap, ◌∙◌, arith}
+use Rattle.std.proofs.lemmas.List.{length-map}
 use Rattle.redo.specs.declared.tally.Tally.{Tally}
-use Rattle.redo.specs.Placed.{tally_of, tallies_of, IsPlaced, ArePlaced}
-use Rattle.redo.proofs.Placed.{placed_page}
+use Rattle.redo.specs.Placed.{untouched, tally_of, tallies_of}
+use Rattle.redo.proofs.Placed.{tallies_page}
 use Rattle.redo.proofs.tally_table.TallyTable.push.Goals as goal
-
-pub invariant_of-self-2 : goal.invariant_of-self-2
-invariant_of-self-2 c =
-    let inside = c.self.inside in
-    let pages = inside.pages.items in
-    let count : c.args.number ≡ length pages = omega (arith, c.requires, ap (λ (ts : List Tally). length ts) c.self.view_is, length-map pages (tally_of inside.kept.items inside.rec_lsn)) in
-    subst (ArePlaced c.keep_untouched.new.kept.items) (sym c.in_ok-push.ensures.items)
-    (placed_page c.keep_untouched.new.kept.items pages _ (subst (λ n. IsPlaced c.keep_untouched.new.kept.items n (record { number = c.args.number; place = c.in_ok-place.place; lsn = c.args.lsn })) count c.in_ok-place.ensures.placed) (c.in_ok-place.ensures.others pages c.self.invariant))
 
 pub returns-clause-added : goal.returns-clause-added
 returns-clause-added c =
     let inside = c.self.inside in
+    let kept = inside.kept.items in
+    let rec_lsns = inside.rec_lsns.items in
     let pages = inside.pages.items in
-    let kept = c.keep_untouched.new.kept.items in
-    ap (tallies_of kept inside.rec_lsn) c.in_ok-push.ensures.items
-    ∙ map_push (tally_of kept inside.rec_lsn) pages _
-    ∙ ap₂ (λ (ts : List Tally) (t : Tally). ts ++ t ∷ []) (c.in_ok-place.ensures.same pages c.self.invariant ∙ c.self.view_is) c.in_ok-place.ensures.tally
+    let count : c.args.number ≡ length pages = omega (arith, c.requires, ap (λ (ts : List Tally). length ts) c.self.view_is, length-map pages (tally_of kept rec_lsns)) in
+    let all = pages ++ record { number = c.args.number; place = 0; lsn = c.args.lsn; applied = 0 } ∷ [] in
+    ap (tallies_of kept c.push.new.self.items) (c.push-2.ensures.items ∙ ap (λ b. cond b all pages) c.if-is_err.ensures.negation)
+    ∙ ap (λ os. tallies_of kept os all) c.in_ok-push.ensures.items
+    ∙ tallies_page kept rec_lsns pages c.args.number c.args.lsn c.args.rec_lsn c.self.invariant count
+    ∙ ap (λ ts. ts ++ untouched c.args.number c.args.lsn c.args.rec_lsn ∷ []) c.self.view_is
