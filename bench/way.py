@@ -173,7 +173,8 @@ CUTS = {
         Notes::fail Notes::pass_over Board::stop recovery/first_reading.rt:check_log''',
     'no checkpoint': '''wal/checkpoint.rt FrameHead::bytes wal/frame.rt:checkpoint_at wal/frame.rt:transactions_at wal/frame.rt:dirties_at
         analysis/base.rt:transactions_of analysis/base.rt:dirty_pages_of passes/in_pieces.rt:go_by_passes
-        CheckpointScan::look_at CheckpointScan::is_done Analysis::look_at Analysis::is_done TallyScan::look_at TallyScan::is_done''',
+        CheckpointScan::look_at CheckpointScan::is_done Analysis::look_at Analysis::is_done TallyScan::look_at TallyScan::is_done
+        wal/next.rt:checkpoint_seen''',
     'updates and commits alone are read': '''wal/frame.rt:compensation_at wal/next.rt:compensation_seen wal/glance.rt:compensation_glance
         wal/image.rt:compensation_image
         analysis/scan.rt:prepared wal/field.rt:put_entries wal/field.rt:put_dirties wal/field.rt:entry_bytes
