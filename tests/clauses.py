@@ -21,7 +21,7 @@ from sizes import TESTS
 
 LONGEST = 100
 KEPT = {"analysis": 37, "aries_c": 13, "audit": 48, "board": 13, "changes": 21, "command": 6, "device": 14, "dump": 26, "dump_command": 5, "journal": 23,
-        "journal_recovery": 2, "page": 9, "passes": 12, "pieces": 2, "recovery": 24, "redo": 71, "wal": 12, "words": 1}
+        "journal_recovery": 2, "page": 9, "passes": 12, "pieces": 2, "recovery": 24, "redo": 66, "wal": 12, "words": 1}
 
 
 def crates():
