@@ -24,7 +24,7 @@ FindsFrom held first room marks torn = ForText held (λ text. IsFirstMark text f
 
 module _ {P : Type 0} (pass : Pass P) where
   -- OF A PIECE in these bytes
-  -- it has taken the records, of which the last has this LSN, and so many bytes come after them
+  -- it has taken its records; the last one has this LSN, and this is how many bytes come after it
   abbrev pub ReadsOver : (bytes : List ℕ) → (old new : P) → (last torn : ℕ) → Type 0
   ReadsOver bytes old new last torn = (piece : LogContent) × Reads bytes piece torn × (last_lsn (history piece) ≡ last) × PassesOver pass.passes old new piece
 
