@@ -1,10 +1,10 @@
 #!/usr/bin/env python3
 """Counts the instructions that runs of the workloads take, and compares them with those kept in instructions.txt.
 
-usage: bench/count.py [--keep] [--program FILE] [JOB..]
+usage: bench/count.py [--keep] [--program FILE] [--aries FILE] [JOB..]
 
-The runs are the small ones of crates/workloads/stdout and the LARGER ones below, or those of each JOB. Each is run under
-`valgrind --tool=callgrind`. What the program's own functions take counts; what the C library takes does not, since its
+The runs are the small ones of crates/workloads/stdout, the LARGER ones below, and the recoveries of FILES by `aries`; or
+those of each JOB. Each is run under `valgrind --tool=callgrind`. What the program's own functions take counts; what the C library takes does not, since its
 copies differ from processor to processor. So a request for memory, which the library serves, counts as much as it takes
 there, about. A run fails that takes more than 3 % above what is kept, and prints the ten
 functions that grew most. One that takes more than 3 % below asks for its count to be kept: --keep does that, for the runs
@@ -23,6 +23,7 @@ import tempfile
 HERE = os.path.dirname(os.path.abspath(__file__))
 CRATE = os.path.join(os.path.dirname(HERE), "crates/workloads")
 KEPT = os.path.join(HERE, "instructions.txt")
+LOGS = os.path.join(HERE, "logs.py")
 ALLOWED = 0.03  # what a count may differ from the one kept
 SHARE = 0.01  # a function with a smaller share of its run is not kept
 AT_ONCE = 4
@@ -31,6 +32,13 @@ ASKED_THROUGH = ("rattle_alloc", "rattle_realloc")
 # Of a small run the pages of its stores take most, so that little is seen of what a record takes. These are the longest
 # first, so that no processor waits for them at the end.
 LARGER = {"mixed": 500_000, "rollback": 20_000, "recover": 1_000_000, "dump": 1_000_000, "audit": 1_000_000, "write": 200_000}
+
+# A recovery of files: the shape and the size of the log that logs.py makes, and where the new log goes.
+FILES = ["files fresh 1M in-place", "files fresh 10M in-place", "files ckpt90 10M in-place", "files fresh 10M copied"]
+HOW = {
+    "in-place": ["--in-place", "--replace"],
+    "copied": ["--out-log", "new-log", "--out-store", "new-store"],
+}
 
 
 def lines_of(path):
@@ -44,8 +52,8 @@ def small_runs():
 
 
 def runs():
-    """The runs, each a job and its size."""
-    return [f"{job} {size}" for job, size in LARGER.items()] + list(small_runs())
+    """The runs, each a job and its size, or a recovery of files."""
+    return [f"{job} {size}" for job, size in LARGER.items()] + FILES + list(small_runs())
 
 
 def seed():
@@ -108,6 +116,20 @@ def counted(program, run):
         return own_costs(out, program), None
 
 
+def counted_on_files(program, run):
+    """What the program's functions take in a recovery of files, and what is wrong with it."""
+    _, shape, size, how = run.split()
+    with tempfile.TemporaryDirectory(prefix="aries-count-") as room:
+        subprocess.run([sys.executable, LOGS, shape, size, "log", "store"], check=True, stdout=subprocess.DEVNULL, cwd=room)
+        out = os.path.join(room, "out")
+        words = ["valgrind", "--tool=callgrind", f"--callgrind-out-file={out}", program]
+        words += ["recover", "--log", "log", "--store", "store", *HOW[how]]
+        ran = subprocess.run(words, capture_output=True, text=True, cwd=room)
+        if ran.returncode != 0 or not ran.stdout.startswith("records "):
+            return {}, f"status {ran.returncode}, {ran.stdout!r}, {ran.stderr[-1000:]}"
+        return own_costs(out, program), None
+
+
 # What is kept: a line for each run, and below it one for each of its functions that takes much of it.
 
 def kept_counts():
@@ -156,16 +178,20 @@ def compare(run, costs, kept):
     return is_well
 
 
-def count_all(program, asked):
+def count_all(asked):
     """What each of these runs takes. They run side by side, since their counts do not depend on one another."""
+    def count(run):
+        return counted_on_files(os.path.realpath(asked.aries), run) if run in FILES else counted(os.path.realpath(asked.program), run)
+
     with concurrent.futures.ThreadPoolExecutor(AT_ONCE) as pool:
-        return dict(zip(asked, pool.map(lambda run: counted(program, run), asked)))
+        return dict(zip(asked.runs, pool.map(count, asked.runs)))
 
 
 def options():
     parser = argparse.ArgumentParser(usage=__doc__.split("usage: ")[1].splitlines()[0], add_help=False)
     parser.add_argument("--keep", action="store_true")
     parser.add_argument("--program", default=os.path.join(CRATE, "out/workloads"))
+    parser.add_argument("--aries", default=os.path.join(os.path.dirname(HERE), "crates/aries_cli/out/aries_cli"))
     parser.add_argument("jobs", nargs="*")
     asked = parser.parse_args()
     asked.runs = [run for run in runs() if not asked.jobs or run.split()[0] in asked.jobs]
@@ -177,10 +203,11 @@ def main():
     if not shutil.which("valgrind"):
         print("skipped: valgrind is missing, so no instruction is counted")
         sys.exit(1 if os.environ.get("CI") else 0)
-    if not os.path.exists(asked.program):
-        sys.exit(f"{asked.program} is missing: `rt ci` builds it, or `rt run` in crates/workloads")
+    for program in (asked.program, asked.aries):
+        if not os.path.exists(program):
+            sys.exit(f"{program} is missing: `rt ci` builds it, or `rt run` in the folder of its crate")
     kept, is_well = kept_counts(), True
-    for run, (costs, wrong) in count_all(os.path.realpath(asked.program), asked.runs).items():
+    for run, (costs, wrong) in count_all(asked).items():
         if wrong:
             print(f"{run}: FAILED ({wrong})")
             is_well = False

@@ -15,3 +15,4 @@ pub mod Passing
 pub mod Ends
 pub mod Seen
 pub mod BothTables
+pub mod Fresh

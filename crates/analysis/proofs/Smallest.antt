@@ -9,7 +9,7 @@ pub not_below : (first : ℕ) (d : ℕ × ℕ) (dirty : List (ℕ × ℕ)) → f
 not_below first d [] = omega arith
 not_below first d (e ∷ dirty) = omega (arith, not_below first e dirty)
 
-lower-min : (a b : ℕ) → 1 ≤ a → lower a b ≡ min a b
+pub lower-min : (a b : ℕ) → 1 ≤ a → lower a b ≡ min a b
 lower-min a b h =
     let some : eqb a 0 ≡ false = ne_eqb a 0 (λ e. omega (arith, h, e)) in
     elim (cases_Bool (ltb b a)) [

@@ -135,6 +135,10 @@ pub record ServesRedo (log : LogContent) (m count : ℕ) (found : List (ℕ × �
 abbrev pub tables_with : List TableEntry → TablesContent → TablesContent
 tables_with transactions pages = record { transactions = transactions; dirty = pages.dirty; redo_lsn = pages.redo_lsn }
 
+-- tables with these dirty pages
+abbrev pub with_dirty : List (ℕ × ℕ) → TablesContent → TablesContent
+with_dirty dirty tables = record { transactions = tables.transactions; dirty = dirty; redo_lsn = tables.redo_lsn }
+
 -- ONE RESULT. No log has two such tables after one LSN.
 abbrev pub OneTables : Type 0
 OneTables = (log : LogContent) (m : ℕ) (a b : TablesContent) → AreTablesOf log m a → AreTablesOf log m b → a ≡ b

@@ -3,7 +3,7 @@
 //!
 //! Entry points: [`analyse`] takes a whole log. If a log is read record after record,
 //! [`CheckpointScan`] finds the tables of the checkpoint, and from these on [`TableScan`] those of
-//! the crash.
+//! the crash. Without a checkpoint [`FreshScan`] finds them, but for the dirty pages.
 //!
 //! The promise: on every log it finds the tables of the definition. On a lawful log and its store
 //! they list exactly the unfinished transactions, and redo by them skips no record that a page
@@ -19,6 +19,7 @@
 //!   (`Steps`).
 //! - `checkpoint_scan`, `table_scan`, `transaction_scan`, `page_scan`: the same for a log that is
 //!   read record after record, or in pieces (`Passing`).
+//! - `fresh_scan`: the same without a checkpoint. The dirty pages are not listed (`Fresh`).
 //! - `laws`: a log has one pair of tables, and at most one fault.
 #![tactic(auto)]
 
@@ -26,6 +27,7 @@ mod apart;
 mod base;
 mod checkpoint_scan;
 mod dirty;
+mod fresh_scan;
 mod kept;
 mod laws;
 mod page_scan;
@@ -37,6 +39,7 @@ mod transaction_scan;
 pub use apart::{analyse_transactions, join_tables};
 pub use checkpoint_scan::CheckpointScan;
 pub use dirty::analyse_pages;
+pub use fresh_scan::FreshScan;
 pub use laws::{entries_go_on, no_fault_of_tables, one_base_fault, one_tables, rec_lsns_go_on};
 pub use page_scan::PageScan;
 pub use pass::analyse;

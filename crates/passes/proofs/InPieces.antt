@@ -15,8 +15,9 @@ use Rattle.changes.specs.declared.pages.Pages.{Ghosts as Pages}
 use Rattle.log_laws.specs.Records.{LogContent, history, last_lsn}
 use Rattle.log_laws.specs.Meaning.{BasePages}
 use Rattle.log_laws.specs.Store.{Lawful}
+use Rattle.tables.specs.Lawful.{AreTrue}
 use Rattle.tables.specs.Tables.{TablesContent}
-use Rattle.analysis.specs.Tables.{AreTablesOf}
+use Rattle.analysis.specs.Tables.{AreTablesOf, with_dirty}
 use Rattle.redo.specs.Redone.{RedoneContent, AreWorkers, RepeatsHistory, redone_page}
 use Rattle.restart.specs.declared.outcome.UndoOutcome.{UndoOutcome}
 use Rattle.restart.specs.Outcome.{outcome_with}
@@ -76,14 +77,17 @@ pub is_redone : (whole : LogContent) (before : StoreContent) (tables : TablesCon
 is_redone whole before tables redone none are repeats = record { are = are; none_ahead = none; exist = repeats.exist; redone_pages = repeats.pages; applied = repeats.applied }
 
 -- on pages that show it
-pub shows_redone : {P : Type 0} (pages : Pages P) (whole : LogContent) (before : StoreContent) (stored : List Page) (tables : TablesContent) (applied : ℕ) (new : P) → NoneAhead whole before → AreTablesOf whole before.master tables
-    → AreNumbered before.pages → (redone : List Page) → pages.shows new stored redone → RepeatsHistory whole tables before.pages (record { pages = redone; applied = applied })
+pub shows_redone : {P : Type 0} (pages : Pages P) (whole : LogContent) (before : StoreContent) (stored : List Page) (tables : TablesContent) (dirty : List (ℕ × ℕ)) (applied : ℕ) (new : P) → NoneAhead whole before
+    → AreTablesOf whole before.master (with_dirty dirty tables) → ((base : BasePages) → Lawful base whole before → AreTrue whole before (with_dirty dirty tables))
+    → AreNumbered before.pages → (redone : List Page) → pages.shows new stored redone → RepeatsHistory whole (with_dirty dirty tables) before.pages (record { pages = redone; applied = applied })
     → ShowRedone pages whole before stored tables applied new
-shows_redone pages whole before stored tables applied new none are numbered redone shown repeats = (
+shows_redone pages whole before stored tables dirty applied new none are truth numbered redone shown repeats = (
+  dirty,
   redone,
   shown,
-  subst AreNumbered (sym repeats.pages) (changed_numbered (redone_page whole tables) before.pages (λ page. refl) numbered),
-  is_redone whole before tables _ none are repeats,
+  subst AreNumbered (sym repeats.pages) (changed_numbered (redone_page whole (with_dirty dirty tables)) before.pages (λ page. refl) numbered),
+  is_redone whole before (with_dirty dirty tables) _ none are repeats,
+  truth,
 )
 
 -- WHAT UNDO LEAVES, if redo began at the same LSN

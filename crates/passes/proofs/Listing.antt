@@ -15,6 +15,7 @@ use Rattle.log_laws.specs.Checkpoint.{or_else}
 use Rattle.log_laws.proofs.Histories.{record_last, record_more, record_above, base_within}
 use Rattle.tables.specs.Tables.{TablesContent}
 use Rattle.analysis.specs.Tables.{AreTablesOf, first_behind, redo_lsn_of}
+use Rattle.analysis.proofs.Fresh.{first_next}
 use Rattle.analysis.proofs.Smallest.{not_below}
 use Rattle.redo.specs.Changes.{page_named}
 use Rattle.redo.specs.Redone.{RedoneContent, redone_page, applied_to, IsLookedAt, AllExist, IsFirstMissing, RedoFault, RepeatsHistory}
@@ -75,9 +76,6 @@ applied_same a b from on image (log ▸ r) same =
 
 -- ---- where a page is listed without a checkpoint: at the first record on it
 -- it is a record of the log
-first_next : (p : ℕ) (log : History) (r : LogRecord) → first_behind 0 p (log ▸ r) ≡ or_else (first_behind 0 p log) (cond (is_on p r) (Some (suc (last_lsn log))) None)
-first_next p log r = (let behind = le-leb 0 (last_lsn log) (omega arith) in rw behind refl)
-
 first_within : (p x : ℕ) (log : History) → first_behind 0 p log ≡ Some x → (base_lsn log < x) × (x ≤ last_lsn log)
 first_within p x (start base) is = absurd cc
 first_within p x (log ▸ r) is = by (λ y own. first_within p y log own) (first_behind 0 p log) refl (is_on p r) (sym (first_next p log r) ∙ is)

@@ -9,7 +9,8 @@ use Rattle.page.specs.Store.{AreNumbered}
 use Rattle.log_laws.specs.Records.{LogContent, history, last_lsn, base_lsn}
 use Rattle.log_laws.proofs.Histories.{base_within}
 use Rattle.tables.specs.Tables.{TablesContent}
-use Rattle.analysis.specs.Tables.{AreTablesOf}
+use Rattle.analysis.specs.Fresh.{AreFreshTables}
+use Rattle.analysis.specs.Tables.{with_dirty}
 use Rattle.redo.specs.Inputs.{input_over}
 use Rattle.redo.specs.OnePass.{AreUpTo}
 use Rattle.redo.specs.Passing.{TalliesSoFar, ListEach}
@@ -44,9 +45,9 @@ module _ (whole : LogContent) (images : List Page) (lsn : ℕ) (missing : Option
   tallied_if_ok (Ok t) own = subst (AreTalliedByAll whole images lsn) (sym own.1) (subst (λ m. TalliedOrRefused whole images lsn m scan) own.0 tallied)
   tallied_if_ok (Err e) own = tt
 
-  pub refused_if_err : (tables : TablesContent) → AreTablesOf whole 0 tables → (left : Result TalliesSoFar Fault) → IfErr left (λ e. missing ≡ Some e) → IfErr left (RedoFault whole (length images) tables.redo_lsn 1)
-  refused_if_err tables are (Ok t) own = tt
-  refused_if_err tables are (Err e) own = fault_by_found whole tables are (length images) e (subst (λ m. TalliedOrRefused whole images lsn m scan) own tallied)
+  pub refused_if_err : (tables : TablesContent) → AreFreshTables whole tables → (left : Result TalliesSoFar Fault) → IfErr left (λ e. missing ≡ Some e) → IfErr left (RedoFault whole (length images) tables.redo_lsn 1)
+  refused_if_err tables fresh (Ok t) own = tt
+  refused_if_err tables fresh (Err e) own = fault_by_found whole (with_dirty fresh.dirty tables) fresh.are (length images) e (subst (λ m. TalliedOrRefused whole images lsn m scan) own tallied)
 
 pub count_if_ok : (missing : Option Fault) (scan : TalliesSoFar) (count : ℕ) → length scan.tallies ≡ count → (left : Result TalliesSoFar Fault) → IfOk left (λ t. (missing ≡ None) × (t ≡ scan)) → IfOk left (λ t. length t.tallies ≡ count)
 count_if_ok missing scan count is (Ok t) own = ap (λ (s : TalliesSoFar). length s.tallies) own.1 ∙ is

@@ -10,14 +10,16 @@ use Rattle.log_laws.specs.Records.{LogContent, history, base_lsn, last_lsn}
 use Rattle.wal.specs.Reads.{Reads, Cause, log_text}
 use Rattle.undo.specs.declared.appended.Appended.{Appended}
 use Rattle.undo.specs.Appended.{appended_records}
+use Rattle.tables.specs.Lawful.{AreTrue}
 use Rattle.tables.specs.Tables.{TablesContent}
+use Rattle.analysis.specs.Tables.{with_dirty}
 use Rattle.restart.specs.Outcome.{OutcomeContent, outcome_with}
 use Rattle.restart.specs.Restart.{InputFault, IsRedone, Restarts, Restores, store_with}
 use Rattle.passes.specs.declared.in_pieces.Forward.{Forward}
 use Rattle.passes.specs.declared.in_pieces.Restarted.{Restarted}
 use Rattle.passes.specs.Calls.{ForText, ForLog}
 use Rattle.passes.specs.Marks.{IsResource}
-use Rattle.passes.specs.Tables.{AreTrueIfLawful, AreWithout0}
+use Rattle.passes.specs.Tables.{AreWithout0}
 use Rattle.passes.specs.declared.fault.PassFault.{PassFault}
 use Rattle.passes.specs.declared.fault.PassFault.TheVariants as fault
 
@@ -54,10 +56,12 @@ module _ {P : Type 0} (pages : Pages P) where
   abbrev pub ForStore : P → (master : ℕ) → ((before : StoreContent) (stored : List Page) → Type 0) → Type 0
   ForStore p master Holds = (before : StoreContent) (stored : List Page) → before.master ≡ master → AreNumbered before.pages → pages.shows p stored before.pages → Holds before stored
 
-  -- they show what analysis and redo make of a store
+  -- they show what analysis and redo make of a store: by these tables with some dirty pages, which are true if log and store are lawful
   abbrev pub ShowRedone : (whole : LogContent) → StoreContent → (stored : List Page) → TablesContent → (applied : ℕ) → P → Type 0
   ShowRedone whole before stored tables applied p =
-      (redone : List Page) × pages.shows p stored redone × AreNumbered redone × IsRedone whole before tables (record { pages = redone; applied = applied })
+      (dirty : List (ℕ × ℕ)) × (redone : List Page) × pages.shows p stored redone × AreNumbered redone
+      × IsRedone whole before (with_dirty dirty tables) (record { pages = redone; applied = applied })
+      × ((base : BasePages) → Lawful base whole before → AreTrue whole before (with_dirty dirty tables))
 
   -- what a restart makes of it
   abbrev pub ShowRestart : (whole : LogContent) → StoreContent → (stored : List Page) → Restarted → P → Type 0
@@ -71,7 +75,6 @@ module _ {P : Type 0} (pages : Pages P) where
 -- analysis and redo have this result
 pub record GoesForward {P : Type 0} (pages : Pages P) (held : Option (List ℕ)) (master : ℕ) (old new : P) (x : Forward) : Type 0 where
   pub redone : ForLog held (λ whole. ForStore pages old master (λ before stored. ShowRedone pages whole before stored x.tables x.applied new))
-  pub truth : ForLog held (AreTrueIfLawful master x.tables)
   pub no_transaction_0 : AreWithout0 x.tables
   pub numbered : StayNumbered pages old new
 

@@ -3,18 +3,17 @@ use Rattle.std.specs.Prelude.{◌≡◌, ℕ, ◌+◌, List, Option, Some, None,
 use Rattle.page.specs.declared.fault.Fault.{Fault}
 use Rattle.page.specs.declared.page.Page.{Page}
 use Rattle.changes.specs.declared.pages.Pages.{Ghosts as Pages}
-use Rattle.log_laws.specs.Records.{LogContent, History, history, base_lsn, last_lsn}
+use Rattle.log_laws.specs.Records.{LogContent, start, history, base_lsn, last_lsn}
 use Rattle.wal.specs.declared.glance.Glance.{Glance}
 use Rattle.wal.specs.Glances.{IsGlanceBehind}
 use Rattle.tables.specs.Pieces.{IsPieceOf}
 use Rattle.tables.specs.Tables.{TablesContent}
-use Rattle.analysis.specs.Passing.{SeenTables, HasAnalysed, ComesBefore}
+use Rattle.analysis.specs.Fresh.{FreshTables, HasFound}
 use Rattle.redo.specs.Passing.{TalliesSoFar, ListEach}
 use Rattle.redo.specs.Redone.{RedoFault}
 use Rattle.passes.specs.declared.fresh.ForwardReading.{ForwardReading}
 use Rattle.passes.specs.declared.fresh.ForwardScan.{ForwardScan}
 use Rattle.passes.specs.Calls.{ForLog}
-use Rattle.passes.specs.Tables.{NotesOn}
 use Rattle.passes.specs.Redoing.{AreTalliedUpTo, ForShown}
 
 -- TALLIED BY ALL. The tallies describe the pages as the records of the whole log up to an LSN leave them, by tables that list each page of
@@ -38,18 +37,22 @@ TalliesNext lsn glance before after old new = (whole piece : LogContent) (images
 abbrev pub IsTalliedTo : LogContent → List Page → (lsn : ℕ) → ForwardScan → Type 0
 IsTalliedTo whole images lsn scan = TalliedOrRefused whole images lsn scan.fault scan.tallies
 
--- before the first record, its tables are empty
-abbrev pub HasBegun : SeenTables → Type 0
-HasBegun scan = (whole log : History) → ComesBefore 0 log → HasAnalysed 0 whole log scan
+-- before the first record, its table is empty
+abbrev pub HasBegun : FreshTables → Type 0
+HasBegun scan = (base : ℕ) → HasFound (start base) scan
+
+-- what analysis has found in the log before a mark, it has then found in the log before a later one
+abbrev pub FindsOn : (old new : FreshTables) → (before after : LogContent) → Type 0
+FindsOn old new before after = HasFound (history before) old → HasFound (history after) new
 
 -- with what is between the log before a mark and the log before a later one: for analysis, and for redo of any pages
 abbrev pub ScansOn : (old new : ForwardScan) → (whole before after : LogContent) → Type 0
-ScansOn old new whole before after = NotesOn 0 old.tables new.tables before after
+ScansOn old new whole before after = FindsOn old.tables new.tables before after
     × ((images : List Page) → IsTalliedTo whole images (last_lsn (history before)) old → IsTalliedTo whole images (last_lsn (history after)) new)
 
--- P is true of each log with this base LSN that it has analysed
-abbrev pub ForAnalysed : (base : ℕ) → SeenTables → (LogContent → Type 0) → Type 0
-ForAnalysed base scan P = (log : LogContent) → base_lsn (history log) ≡ base → HasAnalysed 0 (history log) (history log) scan → P log
+-- P is true of each log in which it has found this
+abbrev pub ForFound : FreshTables → (LogContent → Type 0) → Type 0
+ForFound scan P = (log : LogContent) → HasFound (history log) scan → P log
 
 -- WHAT PAGES SHOW, in memory or not
 module _ {P : Type 0} (pages : Pages P) where

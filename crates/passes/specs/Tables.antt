@@ -24,9 +24,9 @@ SeesOn old new before after = (m : ℕ) → HasSeen m (history before) old → H
 abbrev pub NotesOn : (master : ℕ) → (old new : SeenTables) → (before after : LogContent) → Type 0
 NotesOn master old new before after = (whole : History) → HasAnalysed master whole (history before) old → HasAnalysed master whole (history after) new
 
--- it has no entry of transaction 0, which no record has
-abbrev pub HasNone0 : SeenTables → Type 0
-HasNone0 scan = entry_at 0 scan.entries ≡ None
+-- these are the entries of a scan, and none is of transaction 0, which no record has
+abbrev pub HasNone0 : (entries : List (ℕ × Entry)) → Type 0
+HasNone0 entries = entry_at 0 entries ≡ None
 
 -- THE CHECKPOINT that the master names is not before a mark: these are its tables
 abbrev pub AreBaseTables : (held : Option (List ℕ)) → Mark → (end master : ℕ) → List (ℕ × Entry) → List (ℕ × ℕ) → Type 0

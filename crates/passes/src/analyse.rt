@@ -75,7 +75,7 @@ impl Pass for Analysis {
     ghost passes = { λ old new whole before after. (new.master ≡ old.master)
         × NotesOn old.master old.tables new.tables before after };
 
-    ghost keeps = { λ old new. HasNone0 old.tables → HasNone0 new.tables };
+    ghost keeps = { λ old new. HasNone0 old.tables.entries → HasNone0 new.tables.entries };
 
     ghost stops = { λ scan whole before e. e ≡ NoResource };
 

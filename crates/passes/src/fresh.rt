@@ -5,30 +5,29 @@ ghost use Rattle.std.specs.Prelude.{◌≡◌, ◌+◌, ◌≤◌, ◌<◌, ◌^
 ghost use Rattle.device.specs.Reread.{IsReadThrough};
 ghost use Rattle.page.specs.declared.fault.Fault.TheVariants.{NoResource};
 ghost use Rattle.wal.specs.declared.sizes.TheConstants.{LARGEST_BASE};
-ghost use Rattle.analysis.specs.Tables.{AreTablesOf};
+ghost use Rattle.analysis.specs.Fresh.{AreFreshTables};
 ghost use Rattle.redo.specs.Routes.{IsSeen};
-ghost use Rattle.passes.specs.Listing.{TalliesNext, HasBegun, ScansOn, ForAnalysed, BeginsTallies, AreTalliedIn, AreRefused};
+ghost use Rattle.passes.specs.Listing.{TalliesNext, HasBegun, ScansOn, ForFound, BeginsTallies, AreTalliedIn, AreRefused};
 ghost use Rattle.passes.specs.Calls.{IsRoom, HasRead, ForLog, FindsMarks, TextCause};
-ghost use Rattle.passes.specs.Tables.{HasNone0, AreTrueIfLawful, AreWithout0};
+ghost use Rattle.passes.specs.Tables.{HasNone0, AreWithout0};
 
 use crate::find::{mark_at_start, read_from_first};
 use crate::pass::Pass;
 use crate::{Marks, PassFault};
-use analysis::TableScan;
+use analysis::FreshScan;
 use changes::Pages;
 use device::Reread;
 use page::Fault;
 use redo::TallyScan;
 use std::alloc::Global;
-use std::collections::BTreeMap;
 use tables::Tables;
 use wal::Glance;
 
 /// Analysis and redo while a log without a checkpoint is read.
 #[derive(Drop)]
 struct ForwardScan {
-    /// What the records so far do to both tables.
-    tables: TableScan,
+    /// What the records so far do to the transaction table, and where redo begins.
+    tables: FreshScan,
     /// The tallies of all pages, unless redo had a fault.
     tallies: TallyScan,
     /// The fault of redo: its record is on a page that the store lacks, or memory was refused.
@@ -42,14 +41,13 @@ fn begin_scan<P: Pages>(alloc: Global, pages: &P, base: u64) -> Result<ForwardSc
     ensures tallied { IfOk result (BeginsTallies P.Pages pages.now base) }
     ensures upto { IfOk result (λ scan. scan.tallies.upto ≡ base) }
     ensures count { IfOk result (λ scan. length scan.tallies.tallies ≡ P.count pages.now) }
-    ensures no_transaction_0 { IfOk result (λ scan. HasNone0 scan.tables) }
+    ensures no_transaction_0 { IfOk result (λ scan. HasNone0 scan.tables.entries) }
     ensures err { IsOkUnless result NoResource }
 {
-    // Analysis has not found the tables of the crash yet, so redo treats each page as dirty.
+    // Redo treats each page as dirty, so analysis need not list them.
     let tallies = TallyScan::begin_listed(alloc, pages, base + 1, base)?;
-    let tables = TableScan::begin(alloc, BTreeMap::new(alloc), BTreeMap::new(alloc))?;
     Ok(ForwardScan {
-        tables,
+        tables: FreshScan::begin(alloc),
         tallies,
         fault: None,
     })
@@ -89,16 +87,16 @@ impl Pass for ForwardScan {
     ghost passes = { ScansOn };
 
     ghost keeps = { λ old new. (length new.tallies.tallies ≡ length old.tallies.tallies)
-        × (HasNone0 old.tables → HasNone0 new.tables) };
+        × (HasNone0 old.tables.entries → HasNone0 new.tables.entries) };
 
     ghost stops = { λ scan whole before e. e ≡ NoResource };
 
     ghost may_stop = { λ e. e ≡ NoResource };
 
-    ghost begins = { λ scan whole before. (λ all seen. seen, λ images tallied. tallied) };
+    ghost begins = { λ scan whole before. (λ found. found, λ images tallied. tallied) };
 
     ghost goes_on = { λ old now new whole before between after one more. (
-      λ all seen. more.0 all (one.0 all seen),
+      λ found. more.0 (one.0 found),
       λ images tallied. more.1 images (one.1 images tallied),
     ) };
 
@@ -112,7 +110,7 @@ impl Pass for ForwardScan {
 
     #[inline(always)]
     fn look_at(&mut self, lsn: u64, glance: Glance, _body: &[u8]) -> Result<(), Fault> {
-        self.tables.take(lsn, glance, 0)?;
+        self.tables.take(lsn, glance)?;
         self.fault = tally_next(&mut self.tallies, self.fault, glance, lsn);
         Ok(())
     }
@@ -122,14 +120,14 @@ impl Pass for ForwardScan {
     }
 }
 
-/// The tables at the end of a log with this base LSN; and the tallies, or the fault of redo. The only
-/// error is `NoResource`.
-fn finish_scan(scan: ForwardScan, base: u64) -> Result<(Tables, Result<TallyScan, Fault>), Fault>
-    requires { base ≤ LARGEST_BASE }
-    ensures tables { IfOk result (λ x. ForAnalysed base scan.tables
-        (λ log. AreTablesOf log 0 x.0)) }
-    ensures lawful { IfOk result (λ x. ForAnalysed base scan.tables (AreTrueIfLawful 0 x.0)) }
-    ensures no_transaction_0 { HasNone0 scan.tables → IfOk result (λ x. AreWithout0 x.0) }
+/// The tables at the end of the log, without the dirty pages; and the tallies, or the fault of redo.
+/// The only error is `NoResource`.
+fn finish_scan(
+    alloc: Global,
+    scan: ForwardScan,
+) -> Result<(Tables, Result<TallyScan, Fault>), Fault>
+    ensures tables { IfOk result (λ x. ForFound scan.tables (λ log. AreFreshTables log x.0)) }
+    ensures no_transaction_0 { HasNone0 scan.tables.entries → IfOk result (λ x. AreWithout0 x.0) }
     ensures tallies { IfOk result (λ x. IfOk x.1 (λ all. (scan.fault ≡ None)
         × (all ≡ scan.tallies))) }
     ensures refused { IfOk result (λ x. IfErr x.1 (λ e. scan.fault ≡ Some e)) }
@@ -140,7 +138,7 @@ fn finish_scan(scan: ForwardScan, base: u64) -> Result<(Tables, Result<TallyScan
         tallies,
         fault,
     } = scan;
-    let tables = tables.finish(base)?;
+    let tables = tables.finish(alloc)?;
     match fault {
         None => Ok((tables, Ok(tallies))),
         Some(fault) => Ok((tables, Err(fault))),
@@ -154,7 +152,7 @@ pub struct ForwardReading {
     pub marks: Marks,
     /// How many bytes are torn at the log's end.
     pub torn: usize,
-    /// The tables of the crash.
+    /// The tables of the crash. They list no dirty page: redo has treated each page as dirty.
     pub tables: Tables,
     /// The tallies of redo at the log's end, or the fault of redo: `NoSuchPage` with the LSN of the
     /// first record on a page that the store lacks, or `NoResource` if memory was refused.
@@ -176,8 +174,7 @@ pub fn read_forward<S: Reread, P: Pages>(
     ensures found { IfOk result (λ x. FindsMarks (S.text source.old) (length room.old)
         x.marks x.torn) }
     ensures tables { IfOk result (λ x. ForLog (S.text source.old)
-        (λ log. AreTablesOf log 0 x.tables)) }
-    ensures lawful { IfOk result (λ x. ForLog (S.text source.old) (AreTrueIfLawful 0 x.tables)) }
+        (λ log. AreFreshTables log x.tables)) }
     ensures no_transaction_0 { IfOk result (λ x. AreWithout0 x.tables) }
     ensures tallied { IfOk result (AreTalliedIn P.Pages (S.text source.old) pages.now) }
     ensures count { IfOk result (λ x. IfOk x.tallies (λ all. length all.tallies
@@ -190,7 +187,7 @@ pub fn read_forward<S: Reread, P: Pages>(
     let first = mark_at_start(alloc, source, room)?;
     let mut scan = begin_scan(alloc, pages, first.lsn)?;
     let (marks, torn) = read_from_first(alloc, source, first, room, &mut scan)?;
-    let (tables, tallies) = finish_scan(scan, first.lsn)?;
+    let (tables, tallies) = finish_scan(alloc, scan)?;
     Ok(ForwardReading {
         marks,
         torn,

@@ -41,7 +41,7 @@ struct Forward {
     marks: Marks,
     /// How many bytes are torn at the log's end.
     torn: usize,
-    /// The tables of the crash.
+    /// The tables of the crash. Their dirty pages are not looked at any more.
     tables: Tables,
     /// How many records redo applied to the pages.
     applied: u64,

@@ -15,7 +15,7 @@ use Rattle.log_laws.specs.Undo.{doubtful_in}
 use Rattle.log_laws.specs.Store.{Lawful, store_out}
 use Rattle.tables.specs.Lawful.{AreTrue}
 use Rattle.tables.specs.Tables.{TablesContent, losers_in}
-use Rattle.analysis.specs.Tables.{AreTablesOf, AreTransactionsOf, AreDirtyPagesOf, BaseFault, base_of}
+use Rattle.analysis.specs.Tables.{AreTablesOf, AreTransactionsOf, AreDirtyPagesOf, BaseFault, base_of, with_dirty}
 use Rattle.redo.specs.Parting.{PartingContent}
 use Rattle.redo.specs.Redone.{RedoneContent, redone_page, applied_to, AreWorkers, AllExist, IsFirstMissing, RedoFault}
 use Rattle.restart.specs.declared.outcome.Outcome.{Outcome}
@@ -234,26 +234,26 @@ abbrev pub store_with : StoreContent → List Page → StoreContent
 store_with before pages = record { master = before.master; pages = pages }
 
 module _ {P : Type 0} (pages : Pages P) (some : LogContent) (tables : TablesContent) where
-  -- this holds, if they show the pages that redo by the tables has made
-  abbrev pub ForRedone : P → (LogContent → StoreContent → (stored redone : List Page) → (applied : ℕ) → Type 0) → Type 0
-  ForRedone old Holds = (whole : LogContent) (before : StoreContent) (stored redone : List Page) (applied : ℕ) → HasEnough whole some tables → AreNumbered redone
-      → pages.shows old stored redone → IsRedone whole before tables (record { pages = redone; applied = applied }) → Holds whole before stored redone applied
+  -- this holds, if they show the pages that redo has made by the tables, with any dirty pages in place of theirs: undo looks at none
+  abbrev pub ForRedone : P → (LogContent → StoreContent → TablesContent → (stored redone : List Page) → (applied : ℕ) → Type 0) → Type 0
+  ForRedone old Holds = (whole : LogContent) (before : StoreContent) (dirty : List (ℕ × ℕ)) (stored redone : List Page) (applied : ℕ) → HasEnough whole some tables → AreNumbered redone
+      → pages.shows old stored redone → IsRedone whole before (with_dirty dirty tables) (record { pages = redone; applied = applied }) → Holds whole before (with_dirty dirty tables) stored redone applied
 
   -- they then show those after a restart on the whole log and the store
   abbrev pub RestartsFrom : (old new : P) → UndoOutcome → Type 0
-  RestartsFrom old new x = ForRedone old (λ whole before stored redone applied. (after : List Page) × pages.shows new stored after
+  RestartsFrom old new x = ForRedone old (λ whole before found stored redone applied. (after : List Page) × pages.shows new stored after
       × Restarts whole before (outcome_with (store_with before after) tables.redo_lsn applied (history whole) x))
 
   -- for a lawful log and its store, over any base pages, and true tables, this restores them
   abbrev pub RestoresFrom : (old new : P) → UndoOutcome → Type 0
-  RestoresFrom old new x = ForRedone old (λ whole before stored redone applied. (base : BasePages) → Lawful base whole before → AreNumbered before.pages → AreTrue whole before tables
+  RestoresFrom old new x = ForRedone old (λ whole before found stored redone applied. (base : BasePages) → Lawful base whole before → AreNumbered before.pages → AreTrue whole before found
       → (after : List Page) × pages.shows new stored after × Restores base whole before (outcome_with (store_with before after) tables.redo_lsn applied (history whole) x))
 
   -- an error is that of the whole log and the store
   abbrev pub FailsFrom : P → Fault → Type 0
-  FailsFrom old e = ForRedone old (λ whole before stored redone applied. InputFault whole before e)
+  FailsFrom old e = ForRedone old (λ whole before found stored redone applied. InputFault whole before e)
 
   -- and for a lawful log and its store only a lack of memory
   abbrev pub LacksMemoryFrom : P → Fault → Type 0
-  LacksMemoryFrom old e = ForRedone old (λ whole before stored redone applied. (base : BasePages) → Lawful base whole before → AreNumbered before.pages → AreTrue whole before tables
+  LacksMemoryFrom old e = ForRedone old (λ whole before found stored redone applied. (base : BasePages) → Lawful base whole before → AreNumbered before.pages → AreTrue whole before found
       → e ≡ NoResource)

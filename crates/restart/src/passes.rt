@@ -76,8 +76,8 @@ fn count_kinds(appended: &[Appended]) -> (u64, u64)
 }
 
 /// Rolls the losers back on the redone pages of a store, or on their changes, which ends a restart.
-/// `log` and `tables` are as for [`roll_back`], and so are the errors. After an error the pages are
-/// not specified.
+/// `log` and `tables` are as for [`roll_back`], and so are the errors. The dirty pages of `tables` are
+/// not looked at, so there may be none. After an error the pages are not specified.
 pub fn roll_back_on<P: Pages>(
     alloc: Global,
     log: &Looked,

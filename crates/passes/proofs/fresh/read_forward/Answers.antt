@@ -1,9 +1,8 @@
-use Rattle.std.proofs.Common.{◌≡◌, ℕ, List, Some, sym, ap, subst, ◌∙◌, inr}
+use Rattle.std.proofs.Common.{◌≡◌, ℕ, List, Some, sym, ap, subst, ◌∙◌}
 use Rattle.std.proofs.lemmas.Result.{err_from_is_err_and}
 use Rattle.log_laws.specs.Records.{LogContent, lsn_before, start, ◌▸▸◌, history, last_lsn, base_lsn}
 use Rattle.wal.specs.Reads.{Reads}
-use Rattle.log_laws.proofs.Histories.{base_of_log}
-use Rattle.analysis.specs.Passing.{HasAnalysed}
+use Rattle.analysis.specs.Fresh.{HasFound}
 use Rattle.passes.specs.Calls.{ForLog}
 use Rattle.passes.specs.Marks.{AreFound}
 use Rattle.passes.specs.Listing.{IsTalliedTo}
@@ -29,11 +28,12 @@ based g c text whole torn is reads = let own = c.in_ok-first.ensures.mark text i
 
 -- what analysis has found at the log's end
 analysed : (g : Over) (c : goal.In_ok-tables g) (text : List ℕ) (whole : LogContent) (torn : ℕ) → g.S.Reread.text c.args.source.now ≡ Some text → Reads text whole torn
-    → HasAnalysed 0 (history whole) (history whole) c.read_from_first.new.pass.tables
+    → HasFound (history whole) c.read_from_first.new.pass.tables
 analysed g c text whole torn is reads =
     let own = c.in_ok-first.ensures.mark text is in
-    (c.in_ok-marks.ensures.passed text whole own.0 torn (still c.in_ok-first.ensures.source is) reads own.1 own.2).0 (history whole)
-    (c.in_ok-scan.ensures.analysed (history whole) (history own.0) (inr (ap (λ rs. start (lsn_before own.0.begins) ▸▸ rs) own.1 ∙ ap start (sym (base_of_log own.0)))))
+    let scan = c.in_ok-scan.scan.tables in
+    (c.in_ok-marks.ensures.passed text whole own.0 torn (still c.in_ok-first.ensures.source is) reads own.1 own.2).0
+    (subst (λ h. HasFound h scan) (sym (ap (λ rs. start (lsn_before own.0.begins) ▸▸ rs) own.1)) (c.in_ok-scan.ensures.analysed (lsn_before own.0.begins)))
 
 -- what redo has found
 tallied : (g : Over) (c : goal.In_ok-tables g)
@@ -48,10 +48,7 @@ returns-clause-found g c = λ text is.
     subst (λ n. AreFound text n c.in_ok-marks.marks c.in_ok-marks.torn) c.mark_at_start.auto.room (c.in_ok-marks.ensures.found text (still c.in_ok-first.ensures.source is) (c.in_ok-first.ensures.mark text is))
 
 pub returns-clause-tables : goal.returns-clause-tables
-returns-clause-tables g c = λ text whole torn is reads. c.in_ok-tables.ensures.tables whole (based g c text whole torn is reads) (analysed g c text whole torn is reads)
-
-pub returns-clause-lawful : goal.returns-clause-lawful
-returns-clause-lawful g c = λ text whole torn is reads. c.in_ok-tables.ensures.lawful whole (based g c text whole torn is reads) (analysed g c text whole torn is reads)
+returns-clause-tables g c = λ text whole torn is reads. c.in_ok-tables.ensures.tables whole (analysed g c text whole torn is reads)
 
 pub returns-clause-no_transaction_0 : goal.returns-clause-no_transaction_0
 returns-clause-no_transaction_0 g c = c.in_ok-tables.ensures.no_transaction_0 (c.in_ok-marks.ensures.keeps.1 c.in_ok-scan.ensures.no_transaction_0)
@@ -70,7 +67,7 @@ pub returns-clause-refused : goal.returns-clause-refused
 returns-clause-refused g c = λ text whole torn is reads stored shown numbered shows.
     let scan = c.read_from_first.new.pass in
     refused_if_err whole shown (last_lsn (history whole)) scan.fault scan.tallies (tallied g c text whole torn is reads stored shown numbered shows) c.in_ok-tables.tables
-    (c.in_ok-tables.ensures.tables whole (based g c text whole torn is reads) (analysed g c text whole torn is reads)) c.in_ok-tables.tallies c.in_ok-tables.ensures.refused
+    (c.in_ok-tables.ensures.tables whole (analysed g c text whole torn is reads)) c.in_ok-tables.tallies c.in_ok-tables.ensures.refused
 
 pub returns-clause-read : goal.returns-clause-read
 returns-clause-read g c =

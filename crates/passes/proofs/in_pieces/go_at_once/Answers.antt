@@ -1,7 +1,8 @@
 use Rattle.std.proofs.Common.{length, refl, sym, subst}
 use Rattle.std.proofs.lemmas.Result.{err_from_is_err_and, IfOk-at_ok, IfErr-at_err}
 use Rattle.log_laws.specs.Records.{history, last_lsn}
-use Rattle.analysis.specs.Tables.{AreTablesOf}
+use Rattle.analysis.specs.Fresh.{AreFreshTables}
+use Rattle.analysis.specs.Tables.{AreTablesOf, with_dirty}
 use Rattle.redo.specs.Redone.{RedoFault}
 use Rattle.restart.specs.Restart.{NoneAhead}
 use Rattle.restart.proofs.Restored.{ahead_alone}
@@ -37,10 +38,12 @@ returns-in_err-tallies-clause-fault g c =
     (stops_for g.P.Pages (g.S.Reread.text c.args.source.now) (length c.args.room.now) 0 c.args.pages.now c.in_ok-read.read.marks c.in_ok-read.read.torn c.in_ok-read.ensures.found (fault.Fault e)
     (λ text whole torn is reads marks reach before stored master numbered shows.
     let none : NoneAhead whole before = none_ahead whole before before.pages c.end.result.lsn refl (c.end.ensures.last text whole marks) (c.in_ok-check_lsns.ensures.ok stored before.pages shows) in
-    let are : AreTablesOf whole before.master tables = subst (λ m. AreTablesOf whole m tables) (sym master) (c.in_ok-read.ensures.tables text whole torn is reads) in
+    let fresh : AreFreshTables whole tables = c.in_ok-read.ensures.tables text whole torn is reads in
+    let found = with_dirty fresh.dirty tables in
+    let are : AreTablesOf whole before.master found = subst (λ m. AreTablesOf whole m found) (sym master) fresh.are in
     let cause : RedoFault whole (length before.pages) tables.redo_lsn 1 e =
     IfErr-at_err (RedoFault whole (length before.pages) tables.redo_lsn 1) c.in_err-tallies.was (c.in_ok-read.ensures.refused text whole torn is reads stored before.pages numbered shows) in
-    (redo_fault_in_pieces whole before none tables are (fault.Fault e) cause, λ base lawful. redo_alone_in_pieces whole before base lawful tables.redo_lsn (fault.Fault e) cause)))
+    (redo_fault_in_pieces whole before none found are (fault.Fault e) cause, λ base lawful. redo_alone_in_pieces whole before base lawful tables.redo_lsn (fault.Fault e) cause)))
 
 pub returns-in_err-applied-clause-fault : goal.returns-in_err-applied-clause-fault
 returns-in_err-applied-clause-fault g c =
@@ -59,13 +62,13 @@ returns-clause-answer g c = record {
       let tables = c.in_ok-read.read.tables in
       let marks = same_marks text (length c.args.room.now) torn c.in_ok-read.read.torn c.in_ok-read.read.marks whole (c.in_ok-read.ensures.found text is) reads in
       let none : NoneAhead whole before = none_ahead whole before before.pages c.end.result.lsn refl (c.end.ensures.last text whole marks) (c.in_ok-check_lsns.ensures.ok stored before.pages shows) in
-      let fresh : AreTablesOf whole 0 tables = c.in_ok-read.ensures.tables text whole torn is reads in
-      let are : AreTablesOf whole before.master tables = subst (λ m. AreTablesOf whole m tables) (sym master) fresh in
+      let fresh : AreFreshTables whole tables = c.in_ok-read.ensures.tables text whole torn is reads in
+      let found = with_dirty fresh.dirty tables in
+      let are : AreTablesOf whole before.master found = subst (λ m. AreTablesOf whole m found) (sym master) fresh.are in
       let tallied = IfOk-at_ok (AreTalliedByAll whole before.pages (last_lsn (history whole))) c.in_ok-tallies.was (c.in_ok-read.ensures.tallied text whole torn is reads stored before.pages numbered shows) in
       let (redone, shown, repeats) = c.in_ok-applied.ensures.redone text whole torn (still c.in_ok-read.ensures.source is) reads marks tallied.listed before.pages stored tallied.tallied shows in
-      shows_redone g.P.Pages whole before stored tables c.in_ok-applied.applied c.end_redo.new.pages none are numbered redone shown
-      (repeats_by_found whole tables fresh tallied.listed (length before.pages) tallied.each before.pages _ refl numbered repeats);
-  truth = c.in_ok-read.ensures.lawful;
+      shows_redone g.P.Pages whole before stored tables fresh.dirty c.in_ok-applied.applied c.end_redo.new.pages none are (λ base lawful. fresh.truth base before lawful master) numbered redone shown
+      (repeats_by_found whole found fresh.are tallied.listed (length before.pages) tallied.each before.pages _ refl numbered repeats);
   no_transaction_0 = c.in_ok-read.ensures.no_transaction_0;
   numbered = c.in_ok-applied.ensures.numbered;
 }

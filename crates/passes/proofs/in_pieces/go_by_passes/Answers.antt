@@ -62,10 +62,7 @@ returns-clause-answer g c = record {
       let none : NoneAhead whole before = none_ahead whole before before.pages c.end.result.lsn refl (c.end.ensures.last text whole marks) (c.in_ok-check_lsns.ensures.ok stored before.pages shows) in
       let are : AreTablesOf whole before.master tables = subst (λ m. AreTablesOf whole m tables) (sym master) (c.in_ok-tables.ensures.tables text whole torn now reads marks) in
       let (redone, shown, repeats) = c.in_ok-applied.ensures.redone text whole torn (still c.in_ok-tables.ensures.source now) reads marks stored before.pages numbered shows in
-      shows_redone g.P.Pages whole before stored tables c.in_ok-applied.applied c.redo_in_pieces.new.pages none are numbered redone shown repeats;
-  truth = λ text whole torn is reads.
-      let marks = same_marks text (length c.args.room.now) torn c.in_ok-marks.torn c.in_ok-marks.marks whole (c.in_ok-marks.ensures.found text is) reads in
-      c.in_ok-tables.ensures.lawful text whole torn (still c.in_ok-marks.ensures.source is) reads marks;
+      shows_redone g.P.Pages whole before stored tables tables.dirty c.in_ok-applied.applied c.redo_in_pieces.new.pages none are (λ base lawful. c.in_ok-tables.ensures.lawful text whole torn now reads marks base before lawful master) numbered redone shown repeats;
   no_transaction_0 = c.in_ok-tables.ensures.no_transaction_0;
   numbered = c.in_ok-applied.ensures.numbered;
 }

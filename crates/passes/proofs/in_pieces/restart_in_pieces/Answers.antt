@@ -54,8 +54,7 @@ returns-in_err-outcome-clause-lawful g c = λ text whole torn base is reads befo
     let redone = c.in_ok-forward.ensures.answer.redone text whole torn is reads before stored master numbered shows in
     rw (exit.1, exit.2)
     (memory_alone c.in_err-outcome.field-0.0
-    (c.in_err-outcome.ensures.lawful whole before stored redone.0 c.in_ok-forward.forward.applied gathered redone.2 redone.1 redone.3 base lawful numbered
-    (c.in_ok-forward.ensures.answer.truth text whole torn is reads base before lawful master)))
+    (c.in_err-outcome.ensures.lawful whole before redone.0 stored redone.1 c.in_ok-forward.forward.applied gathered redone.3 redone.2 redone.4 base lawful numbered (redone.5 base lawful)))
 
 pub returns-in_err-outcome-clause-fault : goal.returns-in_err-outcome-clause-fault
 returns-in_err-outcome-clause-fault g c =
@@ -68,7 +67,7 @@ returns-in_err-outcome-clause-fault g c =
     let gathered = c.in_ok-gathered.ensures.gathered text found.whole torn now found.reads found.are in
     let redone = c.in_ok-forward.ensures.answer.redone text found.whole torn is found.reads before stored master numbered shows in
     in_pieces_fault text found.whole torn before found.reads (fault.Fault c.in_err-outcome.field-0.0)
-    (c.in_err-outcome.ensures.fault found.whole before stored redone.0 c.in_ok-forward.forward.applied gathered redone.2 redone.1 redone.3))
+    (c.in_err-outcome.ensures.fault found.whole before redone.0 stored redone.1 c.in_ok-forward.forward.applied gathered redone.3 redone.2 redone.4))
 
 pub returns-clause-lawful : goal.returns-clause-lawful
 returns-clause-lawful g c = λ text whole torn base is reads before stored master numbered shows lawful.
@@ -78,8 +77,7 @@ returns-clause-lawful g c = λ text whole torn base is reads before stored maste
     let gathered = c.in_ok-gathered.ensures.gathered text whole torn now reads marks in
     let redone = c.in_ok-forward.ensures.answer.redone text whole torn is reads before stored master numbered shows in
     let begins = ap (λ (t : TablesContent). t.redo_lsn) c.tables.view_is in
-    let restored = c.in_ok-outcome.ensures.restores whole before stored redone.0 c.in_ok-forward.forward.applied gathered redone.2 redone.1 redone.3 base lawful numbered
-    (c.in_ok-forward.ensures.answer.truth text whole torn is reads base before lawful master) in
+    let restored = c.in_ok-outcome.ensures.restores whole before redone.0 stored redone.1 c.in_ok-forward.forward.applied gathered redone.3 redone.2 redone.4 base lawful numbered (redone.5 base lawful) in
     restored_from g.P.Pages base whole before stored c.roll_back_on.new.pages c.tables.inside.redo_lsn c.in_ok-forward.forward.tables.redo_lsn c.in_ok-forward.forward.applied c.in_ok-outcome.outcome begins restored
 
 pub returns-clause-reads : goal.returns-clause-reads
@@ -95,7 +93,7 @@ returns-clause-restarts g c = λ text whole torn is reads before stored master n
     let redone = c.in_ok-forward.ensures.answer.redone text whole torn is reads before stored master numbered shows in
     let begins = ap (λ (t : TablesContent). t.redo_lsn) c.tables.view_is in
     restart_from g.P.Pages whole before stored c.roll_back_on.new.pages c.tables.inside.redo_lsn c.in_ok-forward.forward.tables.redo_lsn c.in_ok-forward.forward.applied c.in_ok-outcome.outcome begins
-    (c.in_ok-outcome.ensures.restarts whole before stored redone.0 c.in_ok-forward.forward.applied gathered redone.2 redone.1 redone.3)
+    (c.in_ok-outcome.ensures.restarts whole before redone.0 stored redone.1 c.in_ok-forward.forward.applied gathered redone.3 redone.2 redone.4)
 
 pub returns-clause-numbered : goal.returns-clause-numbered
 returns-clause-numbered g c = stay_more g.P.Pages c.args.pages.now c.go_forward.new.pages c.roll_back_on.new.pages c.in_ok-forward.ensures.answer.numbered c.in_ok-outcome.ensures.numbered

@@ -30,20 +30,20 @@ returns-in_err-rolled-clause-lawful c = λ whole base before are lawful numbered
     let exit = err_from_is_err_and c.from_residual.result c.from_residual.ensures.1 in
     let given = c.redone.inside.pages.items in
     rw (exit.1, exit.2)
-    (c.in_err-rolled.ensures.lawful whole before given given c.redone.inside.applied are (numbered_in _ _ c.redone.view_is c.requires.numbered) refl (subst (IsRedone whole before c.args.tables.now) (sym c.redone.view_is) made) base lawful numbered truth)
+    (c.in_err-rolled.ensures.lawful whole before c.args.tables.now.dirty given given c.redone.inside.applied are (numbered_in _ _ c.redone.view_is c.requires.numbered) refl (subst (IsRedone whole before c.args.tables.now) (sym c.redone.view_is) made) base lawful numbered truth)
 
 pub returns-in_err-rolled-clause-fault : goal.returns-in_err-rolled-clause-fault
 returns-in_err-rolled-clause-fault c = λ whole before are made.
     let exit = err_from_is_err_and c.from_residual.result c.from_residual.ensures.1 in
     let given = c.redone.inside.pages.items in
     rw (exit.1, exit.2)
-    (c.in_err-rolled.ensures.fault whole before given given c.redone.inside.applied are (numbered_in _ _ c.redone.view_is c.requires.numbered) refl (subst (IsRedone whole before c.args.tables.now) (sym c.redone.view_is) made))
+    (c.in_err-rolled.ensures.fault whole before c.args.tables.now.dirty given given c.redone.inside.applied are (numbered_in _ _ c.redone.view_is c.requires.numbered) refl (subst (IsRedone whole before c.args.tables.now) (sym c.redone.view_is) made))
 
 pub returns-clause-lawful : goal.returns-clause-lawful
 returns-clause-lawful c = λ whole base before are lawful numbered kept truth made.
     let given = c.redone.inside.pages.items in
     let restored =
-    c.in_ok-rolled.ensures.restores whole before given given c.redone.inside.applied are (numbered_in _ _ c.redone.view_is c.requires.numbered) refl (subst (IsRedone whole before c.args.tables.now) (sym c.redone.view_is) made) base lawful numbered truth in
+    c.in_ok-rolled.ensures.restores whole before c.args.tables.now.dirty given given c.redone.inside.applied are (numbered_in _ _ c.redone.view_is c.requires.numbered) refl (subst (IsRedone whole before c.args.tables.now) (sym c.redone.view_is) made) base lawful numbered truth in
     subst (Restores base whole before)
     (same_outcome before.master c.args.master c.args.tables.now.redo_lsn c.tables.inside.redo_lsn c.redone.inside.applied restored.0 c.roll_back_on.new.pages.items (history whole) c.in_ok-rolled.rolled kept restored.1
     (ap (λ (t : TablesContent). t.redo_lsn) (sym c.tables.view_is)))
@@ -53,7 +53,7 @@ pub returns-clause-restarts : goal.returns-clause-restarts
 returns-clause-restarts c = λ whole before are kept made.
     let given = c.redone.inside.pages.items in
     let restarted =
-    c.in_ok-rolled.ensures.restarts whole before given given c.redone.inside.applied are (numbered_in _ _ c.redone.view_is c.requires.numbered) refl (subst (IsRedone whole before c.args.tables.now) (sym c.redone.view_is) made) in
+    c.in_ok-rolled.ensures.restarts whole before c.args.tables.now.dirty given given c.redone.inside.applied are (numbered_in _ _ c.redone.view_is c.requires.numbered) refl (subst (IsRedone whole before c.args.tables.now) (sym c.redone.view_is) made) in
     subst (Restarts whole before)
     (same_outcome before.master c.args.master c.args.tables.now.redo_lsn c.tables.inside.redo_lsn c.redone.inside.applied restarted.0 c.roll_back_on.new.pages.items (history whole) c.in_ok-rolled.rolled kept restarted.1
     (ap (λ (t : TablesContent). t.redo_lsn) (sym c.tables.view_is)))

@@ -9,6 +9,7 @@ use Rattle.log_laws.specs.Meaning.{BasePages}
 use Rattle.log_laws.specs.Store.{Lawful, NamesPages}
 use Rattle.tables.specs.Lawful.{AreTrue}
 use Rattle.tables.specs.Tables.{TablesContent, losers_in}
+use Rattle.analysis.specs.Tables.{with_dirty}
 use Rattle.redo.specs.Redone.{RedoneContent, redone_page}
 use Rattle.undo.specs.Appended.{full_records, appended_records, HaveUpdates, RolledBackInBrief}
 use Rattle.undo.specs.Rollback.{undone_pages}
@@ -35,8 +36,8 @@ crash log base before tables redone lawful truth made = record { base = base; st
 pub returns-in_err-appended-clause-lawful : goal.returns-in_err-appended-clause-lawful
 returns-in_err-appended-clause-lawful g c =
     let exit = err_from_is_err_and c.from_residual-in_err-appended.result c.from_residual-in_err-appended.ensures.1 in
-    rw (exit.1, exit.2) (λ whole before stored redone applied are at_numbers shows made base lawful numbered truth.
-    let tables = c.args.tables.now in
+    rw (exit.1, exit.2) (λ whole before dirty stored redone applied are at_numbers shows made base lawful numbered truth.
+    let tables = with_dirty dirty c.args.tables.now in
     let fault = c.in_err-appended.field-0.0 in
     let there = subst (λ n. UndoFault (history c.args.log.now) (losers_in tables) n fault) (sym (g.met.P.Pages.counted c.args.pages.now stored redone shows)) c.in_err-appended.ensures.fault in
     memory_alone whole tables redone (crash whole base before tables (record { pages = redone; applied = applied }) lawful truth made) fault ((gathered_suffices whole c.args.log.now tables are).fault (length redone) fault there))
@@ -44,8 +45,8 @@ returns-in_err-appended-clause-lawful g c =
 pub returns-in_err-appended-clause-fault : goal.returns-in_err-appended-clause-fault
 returns-in_err-appended-clause-fault g c =
     let exit = err_from_is_err_and c.from_residual-in_err-appended.result c.from_residual-in_err-appended.ensures.1 in
-    rw (exit.1, exit.2) (λ whole before stored redone applied are at_numbers shows made.
-    let tables = c.args.tables.now in
+    rw (exit.1, exit.2) (λ whole before dirty stored redone applied are at_numbers shows made.
+    let tables = with_dirty dirty c.args.tables.now in
     let fault = c.in_err-appended.field-0.0 in
     let here = subst (λ n. UndoFault (history c.args.log.now) (losers_in tables) n fault) (sym (g.met.P.Pages.counted c.args.pages.now stored redone shows)) c.in_err-appended.ensures.fault in
     let there : UndoFault (history whole) (losers_in tables) (length before.pages) fault =
@@ -53,8 +54,8 @@ returns-in_err-appended-clause-fault g c =
     undo_fault whole before made.none_ahead tables made.are fault made.exist there)
 
 -- what undo made of these pages
-module _ (g : Over) (c : goal.After-len-2 g) (stored redone : List Page) (shows : g.P.Pages.shows c.args.pages.now stored redone) where
-  rolled : RolledBackInBrief c.args.log.now c.args.tables.now redone (undone_pages c.args.log.now c.in_ok-appended.appended.items redone) c.in_ok-appended.appended.items
+module _ (g : Over) (c : goal.After-len-2 g) (dirty : List (ℕ × ℕ)) (stored redone : List Page) (shows : g.P.Pages.shows c.args.pages.now stored redone) where
+  rolled : RolledBackInBrief c.args.log.now (with_dirty dirty c.args.tables.now) redone (undone_pages c.args.log.now c.in_ok-appended.appended.items redone) c.in_ok-appended.appended.items
   rolled =
       let done = c.in_ok-appended.ensures.rolled_back in
       let count = sym (g.met.P.Pages.counted c.args.pages.now stored redone shows) in
@@ -71,7 +72,10 @@ module _ (g : Over) (c : goal.After-len-2 g) (stored redone : List Page) (shows 
       }
 
 -- the outcome: the losers are rolled back on pages that redo made
-module _ (g : Over) (c : goal.After-len-2 g) where
+module _ (g : Over) (c : goal.After-len-2 g) (dirty : List (ℕ × ℕ)) where
+  abbrev found : TablesContent
+  found = with_dirty dirty c.args.tables.now
+
   abbrev outcome : LogContent → StoreContent → List Page → ℕ → OutcomeContent
   outcome whole before after applied =
       outcome_with (store_with before after) c.args.tables.now.redo_lsn applied (history whole)
@@ -84,11 +88,11 @@ module _ (g : Over) (c : goal.After-len-2 g) where
       })
 
   rolls_back : (whole : LogContent) (before : StoreContent) (redone after : List Page) (applied : ℕ) → AreGathered (history whole) (history c.args.log.now) (losers_in c.args.tables.now)
-      → RolledBackInBrief c.args.log.now c.args.tables.now redone after c.in_ok-appended.appended.items
-      → RollsBack whole before.master c.args.tables.now (record { pages = redone; applied = applied }) (outcome whole before after applied)
+      → RolledBackInBrief c.args.log.now found redone after c.in_ok-appended.appended.items
+      → RollsBack whole before.master found (record { pages = redone; applied = applied }) (outcome whole before after applied)
   rolls_back whole before redone after applied are rolled =
       let log = history whole in
-      let back = (gathered_suffices whole c.args.log.now c.args.tables.now are).rolled_back redone after c.in_ok-appended.appended.items rolled in
+      let back = (gathered_suffices whole c.args.log.now found are).rolled_back redone after c.in_ok-appended.appended.items rolled in
       let told : HaveUpdates whole c.deref.result.now = subst (HaveUpdates whole) (sym c.deref.ensures.value) back.updates in
       record {
         rolled_back = back.rolled_back;
@@ -110,22 +114,22 @@ module _ (g : Over) (c : goal.After-len-2 g) where
       }
 
 pub returns-clause-restores : goal.returns-clause-restores
-returns-clause-restores g c = λ whole before stored redone applied are at_numbers shows made base lawful numbered truth.
-    let tables = c.args.tables.now in
+returns-clause-restores g c = λ whole before dirty stored redone applied are at_numbers shows made base lawful numbered truth.
+    let tables = with_dirty dirty c.args.tables.now in
     let after = undone_pages c.args.log.now c.in_ok-appended.appended.items redone in
     let content : RedoneContent = record { pages = redone; applied = applied } in
-    let back = rolls_back g c whole before redone after applied are (rolled g c stored redone shows) in (
+    let back = rolls_back g c dirty whole before redone after applied are (rolled g c dirty stored redone shows) in (
       after,
       c.in_ok-appended.ensures.pages stored redone at_numbers shows,
       restores base whole before lawful numbered tables truth content _ made back (back.rolled_back.appended_are ∙ tail_is whole tables redone (crash whole base before tables content lawful truth made)),
     )
 
 pub returns-clause-restarts : goal.returns-clause-restarts
-returns-clause-restarts g c = λ whole before stored redone applied are at_numbers shows made.
+returns-clause-restarts g c = λ whole before dirty stored redone applied are at_numbers shows made.
     let after = undone_pages c.args.log.now c.in_ok-appended.appended.items redone in (
       after,
       c.in_ok-appended.ensures.pages stored redone at_numbers shows,
-      record { tables = c.args.tables.now; redone = record { pages = redone; applied = applied }; is = made; rolls_back = rolls_back g c whole before redone after applied are (rolled g c stored redone shows) },
+      record { tables = with_dirty dirty c.args.tables.now; redone = record { pages = redone; applied = applied }; is = made; rolls_back = rolls_back g c dirty whole before redone after applied are (rolled g c dirty stored redone shows) },
     )
 
 pub returns-clause-alike : goal.returns-clause-alike

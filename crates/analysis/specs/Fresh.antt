@@ -1,0 +1,39 @@
+-- FRESH. Analysis of a log without a checkpoint: the transactions, and where redo begins, without the dirty pages (own). Redo then treats
+-- each page as listed from the log's first record on, which changes no result.
+use Rattle.std.specs.Prelude.{◌≡◌, ℕ, suc, List, None, is_some, ◌==◌, if◌then◌else◌}
+use Rattle.page.specs.Store.{StoreContent}
+use Rattle.wal.specs.declared.glance.Glance.{Glance}
+use Rattle.wal.specs.declared.record.Entry.{Entry}
+use Rattle.wal.specs.Glances.{glance_of}
+use Rattle.wal.specs.Spelling.{Fits}
+use Rattle.log_laws.specs.Records.{LogRecord, LogContent, History, start, ◌▸◌, last_lsn}
+use Rattle.log_laws.specs.Meaning.{BasePages, cell_of}
+use Rattle.log_laws.specs.Store.{Lawful}
+use Rattle.tables.specs.Lawful.{AreTrue}
+use Rattle.tables.specs.Tables.{TablesContent}
+use Rattle.analysis.specs.Tables.{AreTablesOf, analysed_entry, entry_at, with_dirty}
+
+-- the LSN of the first record that changes a page, 0 if there is none
+abbrev pub first_change : History → ℕ
+first_change (start _) = 0
+first_change (log ▸ r) = if first_change log == 0 then (if is_some (cell_of r) then suc (last_lsn log) else 0) else first_change log
+
+-- the entries of the transactions, of which the first one of a transaction counts, and the LSN of the first record that changes a page
+pub record FreshTables : Type 0 where
+  pub entries : List (ℕ × Entry)
+  pub first_change : ℕ
+
+-- what a scan has found in the log that was read
+pub record HasFound (log : History) (scan : FreshTables) : Type 0 where
+  pub entries_are : (t : ℕ) → entry_at t scan.entries ≡ analysed_entry t 0 None log
+  pub first_is : scan.first_change ≡ first_change log
+
+-- it looks at the record after this LSN, which is seen so at a glance, and has found that in each log which ends there
+abbrev pub FindsRecord : (lsn : ℕ) → Glance → (old new : FreshTables) → Type 0
+FindsRecord lsn glance old new = (log : History) (r : LogRecord) → glance ≡ glance_of r → Fits r → last_lsn log ≡ lsn → HasFound log old → HasFound (log ▸ r) new
+
+-- with these dirty pages they are the tables of this log, and true if the log is lawful
+pub record AreFreshTables (log : LogContent) (tables : TablesContent) : Type 0 where
+  pub dirty : List (ℕ × ℕ)
+  pub are : AreTablesOf log 0 (with_dirty dirty tables)
+  pub truth : (over : BasePages) (store : StoreContent) → Lawful over log store → store.master ≡ 0 → AreTrue log store (with_dirty dirty tables)
