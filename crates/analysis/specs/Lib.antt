@@ -1,3 +1,4 @@
 pub mod Tables
 pub mod Steps
 pub mod Passing
+pub mod Stretch
