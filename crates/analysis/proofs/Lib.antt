@@ -12,6 +12,8 @@ pub mod NoFurther
 mod NoTables
 pub mod Halves
 pub mod Passing
+pub mod Stretches
+pub mod ToldStretches
 pub mod Ends
 pub mod Seen
 pub mod BothTables

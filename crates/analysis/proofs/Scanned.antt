@@ -30,7 +30,7 @@ undo_next-entry t [] (Some e) = refl
 undo_next-entry t (x ∷ work) base = refl
 
 -- an entry with these fields
-abbrev saying : ℕ → State → ℕ → ℕ → Option TableEntry
+abbrev pub saying : ℕ → State → ℕ → ℕ → Option TableEntry
 saying t s lsn n = Some (record { tx = t; state = s; last = lsn; undo_next = n })
 
 -- after a prepare

@@ -20,6 +20,8 @@
 //! - `checkpoint_scan`, `table_scan`, `transaction_scan`, `page_scan`: the same for a log that is
 //!   read record after record, or in pieces (`Passing`).
 //! - `fresh_scan`: the same without a checkpoint. The dirty pages are not listed (`Fresh`).
+//! - `stretch_scan`, `stretch_join`, `stretch_laws`: a stretch of the log that is looked at without
+//!   the table before it, and then joined to that table (`Stretch`).
 //! - `laws`: a log has one pair of tables, and at most one fault.
 #![tactic(auto)]
 
@@ -33,6 +35,9 @@ mod laws;
 mod page_scan;
 mod pass;
 mod scan;
+mod stretch_join;
+mod stretch_laws;
+mod stretch_scan;
 mod table_scan;
 mod transaction_scan;
 
@@ -43,6 +48,8 @@ pub use fresh_scan::FreshScan;
 pub use laws::{entries_go_on, no_fault_of_tables, one_base_fault, one_tables, rec_lsns_go_on};
 pub use page_scan::PageScan;
 pub use pass::analyse;
+pub use stretch_laws::{stretches_are_told, stretches_go_on};
+pub use stretch_scan::StretchScan;
 pub use table_scan::TableScan;
 pub use tables::Tables;
 pub use transaction_scan::TransactionScan;

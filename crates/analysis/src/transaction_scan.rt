@@ -19,9 +19,9 @@ use wal::{Entry, Glance, Log};
 /// first one counts.
 #[derive(Drop)]
 pub struct TransactionScan {
-    transactions: BTreeMap<u32, Entry>,
-    kept: [Option<(u32, Entry)>; PLACES],
-    highest: u32,
+    pub(crate) transactions: BTreeMap<u32, Entry>,
+    pub(crate) kept: [Option<(u32, Entry)>; PLACES],
+    pub(crate) highest: u32,
 }
 
 impl Model for TransactionScan {
