@@ -3,7 +3,9 @@
 
 use super::analysed::ROWS;
 use super::records::{log_of, put};
-use analysis::{CheckpointScan, PageScan, TableScan, Tables, TransactionScan, analyse};
+use analysis::{
+    CheckpointScan, FreshScan, PageScan, StretchScan, TableScan, Tables, TransactionScan, analyse,
+};
 use checks::check;
 use page::Fault;
 use std::alloc::Global;
@@ -76,6 +78,45 @@ fn tables_by(alloc: Global, pieces: &[Vec<u8>], master: u64) -> Result<Maps, Fau
     Ok((transactions.finish()?, pages.finish()))
 }
 
+/// Gives each record of a piece to the scan without a checkpoint.
+fn find_each(scan: &mut FreshScan, piece: &Log) -> Result<(), Fault> {
+    for lsn in piece.base()..piece.last() {
+        scan.take(lsn, piece.glance_after(lsn))?;
+    }
+    Ok(())
+}
+
+/// The tables without dirty pages, after a log without a checkpoint that is read in these pieces.
+fn fresh_by(alloc: Global, pieces: &[Vec<u8>]) -> Result<Tables, Fault> {
+    let mut scan = FreshScan::begin(alloc);
+    for bytes in pieces {
+        let (piece, _) = read_log(alloc, bytes)?;
+        find_each(&mut scan, &piece)?;
+    }
+    scan.finish(alloc)
+}
+
+/// Gives each record of a piece to the scan of a stretch.
+fn tell_each(scan: &mut StretchScan, piece: &Log) -> Result<(), Fault> {
+    for lsn in piece.base()..piece.last() {
+        scan.note(lsn + 1, piece.glance_after(lsn))?;
+    }
+    Ok(())
+}
+
+/// The transaction table after a log without a checkpoint. Each of these pieces is scanned by itself,
+/// and then joined to the table before it.
+fn joined_by(alloc: Global, pieces: &[Vec<u8>]) -> Result<BTreeMap<u32, Entry>, Fault> {
+    let mut transactions = TransactionScan::begin(BTreeMap::new(alloc));
+    for bytes in pieces {
+        let (piece, _) = read_log(alloc, bytes)?;
+        let mut stretch = StretchScan::begin(alloc);
+        tell_each(&mut stretch, &piece)?;
+        transactions.join(stretch)?;
+    }
+    transactions.finish()
+}
+
 /// Whether two transaction tables are the same.
 fn are_same_transactions(a: &BTreeMap<u32, Entry>, b: &BTreeMap<u32, Entry>) -> bool {
     for (tx, entry) in a {
@@ -127,9 +168,26 @@ fn is_each_same(alloc: Global, log: &Log, pieces: &[Vec<u8>], master: u64) -> bo
     }
 }
 
+/// Whether the scan without a checkpoint and the joined stretches find what analysis without a
+/// checkpoint does.
+fn are_fresh_same(alloc: Global, log: &Log, pieces: &[Vec<u8>]) -> bool {
+    let Ok(whole) = analyse(alloc, log, 0) else {
+        return false;
+    };
+    let (Ok(fresh), Ok(joined)) = (fresh_by(alloc, pieces), joined_by(alloc, pieces)) else {
+        return false;
+    };
+    are_same_transactions(&whole.transactions, &fresh.transactions)
+        && are_same_transactions(&whole.transactions, &joined)
+        && whole.redo_lsn == fresh.redo_lsn
+        && fresh.dirty.is_empty()
+}
+
 /// Whether analysis of these pieces finds what analysis of the log does: the tables, or the fault.
 fn is_same(alloc: Global, log: &Log, pieces: &[Vec<u8>], master: u64) -> bool {
-    is_each_same(alloc, log, pieces, master) && are_both_same(alloc, log, pieces, master)
+    is_each_same(alloc, log, pieces, master)
+        && are_both_same(alloc, log, pieces, master)
+        && are_fresh_same(alloc, log, pieces)
 }
 
 /// Whether it does so if the log is cut after this LSN.
