@@ -12,7 +12,7 @@ use Rattle.tables.specs.Tables.{TablesContent}
 use Rattle.redo.specs.Inputs.{InputContent, input_over}
 use Rattle.redo.specs.Changes.{NamesBelow}
 use Rattle.redo.specs.Routes.{NoteFault}
-use Rattle.redo.specs.OnePass.{AreUpTo}
+use Rattle.redo.specs.Counted.{AreCounted}
 use Rattle.redo.specs.Passing.{TalliesSoFar, IsPieceFor, IsRecordFor}
 use Rattle.redo.specs.Redone.{IsLookedAt, RedoFault}
 use Rattle.redo.proofs.OneMore.{record_of_piece, refused_at}
@@ -23,7 +23,7 @@ use Rattle.passes.specs.Redoing.{AreTalliedUpTo}
 module _ (whole : LogContent) (images : List Page) (tables : TablesContent) (lsn : ℕ) (glance : Glance) (r : LogRecord) (old : TalliesSoFar) (there : record_at (history whole) (lsn + 1) ≡ Some r) (seen : glance ≡ glance_of r)
     (before : AreTalliedUpTo whole images tables lsn old) where
   pub taken_next : (new : TalliesSoFar) → new.redo_lsn ≡ old.redo_lsn → new.upto ≤ lsn + 1
-      → ((input : InputContent) → IsRecordFor input old.redo_lsn (lsn + 1) glance → AreUpTo input lsn old.tallies → AreUpTo input (lsn + 1) new.tallies)
+      → ((input : InputContent) → IsRecordFor input old.redo_lsn (lsn + 1) glance → AreCounted input lsn old.tallies → AreCounted input (lsn + 1) new.tallies)
       → ((x : LogRecord) → glance ≡ glance_of x → IsLookedAt old.redo_lsn (lsn + 1) → NamesBelow (length old.tallies) x) → AreTalliedUpTo whole images tables (lsn + 1) new
   taken_next new same upto goes_on exists = record {
     numbered = before.numbered;
@@ -35,7 +35,7 @@ module _ (whole : LogContent) (images : List Page) (tables : TablesContent) (lsn
           | inl here ↦
               (let one : x ≡ r = same_Some x r (sym found ∙ (ap (record_at (history whole)) here ∙ there)) in
               subst (NamesBelow (length images)) (sym one)
-              (subst (λ n. NamesBelow n r) before.tallied.count (exists r seen (subst (λ n. IsLookedAt n (lsn + 1)) before.from (subst (IsLookedAt tables.redo_lsn) here looked)))))
+              (subst (λ n. NamesBelow n r) before.tallied.redone.count (exists r seen (subst (λ n. IsLookedAt n (lsn + 1)) before.from (subst (IsLookedAt tables.redo_lsn) here looked)))))
           | inr other ↦ before.exist k x looked (omega (arith, less, other)) found
         ];
   }
@@ -44,7 +44,7 @@ module _ (whole : LogContent) (images : List Page) (tables : TablesContent) (lsn
   pub stopped_next : (e : Fault) → IsLookedAt old.redo_lsn (lsn + 1) × ((x : LogRecord) → glance ≡ glance_of x → NoteFault (length old.tallies) (lsn + 1) x e) → RedoFault whole (length images) tables.redo_lsn 1 e
   stopped_next e cause =
       refused_at whole (length images) tables.redo_lsn (lsn + 1) r there before.exist e (subst (λ n. IsLookedAt n (lsn + 1)) (sym before.from) cause.0)
-      (subst (λ n. NoteFault n (lsn + 1) r e) before.tallied.count (cause.1 r seen))
+      (subst (λ n. NoteFault n (lsn + 1) r e) before.tallied.redone.count (cause.1 r seen))
 
 -- BY TABLES THAT LIST EACH PAGE
 module _ (whole piece : LogContent) (images : List Page) (lsn : ℕ) (glance : Glance) (old : TalliesSoFar) (own : IsPieceOf (history whole) (history piece)) (seen : IsGlanceBehind (history piece) lsn glance) (before : AreTalliedByAll whole images lsn old) where
@@ -58,7 +58,7 @@ module _ (whole piece : LogContent) (images : List Page) (lsn : ℕ) (glance : G
   is_next = record_of_piece input old.redo_lsn lsn glance piece is_piece seen
 
   pub tallied_next : (new : TalliesSoFar) → new.redo_lsn ≡ old.redo_lsn → new.upto ≤ lsn + 1
-      → ((any : InputContent) → IsRecordFor any old.redo_lsn (lsn + 1) glance → AreUpTo any lsn old.tallies → AreUpTo any (lsn + 1) new.tallies)
+      → ((any : InputContent) → IsRecordFor any old.redo_lsn (lsn + 1) glance → AreCounted any lsn old.tallies → AreCounted any (lsn + 1) new.tallies)
       → ((x : LogRecord) → glance ≡ glance_of x → IsLookedAt old.redo_lsn (lsn + 1) → NamesBelow (length old.tallies) x) → AreTalliedByAll whole images (lsn + 1) new
   tallied_next new same upto goes_on exists = record {
     listed = before.listed;

@@ -12,7 +12,7 @@ use Rattle.tables.specs.Tables.{TablesContent}
 use Rattle.analysis.specs.Fresh.{AreFreshTables}
 use Rattle.analysis.specs.Tables.{with_dirty}
 use Rattle.redo.specs.Inputs.{input_over}
-use Rattle.redo.specs.OnePass.{AreUpTo}
+use Rattle.redo.specs.Counted.{AreCounted}
 use Rattle.redo.specs.Passing.{TalliesSoFar, ListEach}
 use Rattle.redo.specs.Redone.{RedoFault}
 use Rattle.redo.proofs.Stretches.{skipped_from}
@@ -24,7 +24,7 @@ use Rattle.passes.proofs.Redoing.{tallied_first}
 -- THE TALLIES
 -- before the first record
 pub tallied_all_first : (whole : LogContent) (images : List Page) (base : ℕ) (scan : TalliesSoFar) → AreNumbered images → scan.redo_lsn ≡ base + 1 → scan.upto ≡ base → base_lsn (history whole) ≡ base
-    → ((tables : TablesContent) → ListEach (length images) (base + 1) tables → AreUpTo (input_over whole images tables) base scan.tallies) → AreTalliedByAll whole images base scan
+    → ((tables : TablesContent) → ListEach (length images) (base + 1) tables → AreCounted (input_over whole images tables) base scan.tallies) → AreTalliedByAll whole images base scan
 tallied_all_first whole images base scan numbered from upto at up =
     let within = base_within (history whole) in
     let listed : TablesContent = tables_of_all (length images) (base + 1) in
@@ -32,7 +32,7 @@ tallied_all_first whole images base scan numbered from upto at up =
     record {
       listed = listed;
       each = subst (λ n. ListEach (length images) (n + 1) listed) (sym at) each;
-      tallied = tallied_first whole images listed base base scan numbered from (omega (arith, upto)) (sym at) (omega (arith, at, within)) (omega (arith, at, skipped_from (base_lsn (history whole)) listed.redo_lsn (last_lsn (history whole)) within)) (up listed each);
+      tallied = tallied_first whole images listed base base scan numbered from (omega (arith, upto)) (sym at) (omega arith) (omega (arith, at, within)) (omega (arith, at, skipped_from (base_lsn (history whole)) listed.redo_lsn (last_lsn (history whole)) within)) (up listed each);
     }
 
 pub none_missing : (whole : LogContent) (images : List Page) (lsn : ℕ) (missing : Option Fault) (scan : TalliesSoFar) → is_some missing ≡ false → TalliedOrRefused whole images lsn missing scan → AreTalliedByAll whole images lsn scan

@@ -5,9 +5,10 @@ use Rattle.std.proofs.lemmas.List.{get_or-drop, get_or_default, length-drop}
 use Rattle.std.specs.List.Sorted.{IsNonDecreasingBy}
 use Rattle.page.specs.declared.page.Page.{Page}
 use Rattle.page.specs.Store.{AreNumbered}
-use Rattle.log_laws.specs.Records.{LogContent, start, history, last_lsn, base_lsn}
+use Rattle.log_laws.specs.Records.{LogContent, History, start, history, first, last_lsn, base_lsn}
+use Rattle.log_laws.specs.Redo.{rec_lsn_of}
 use Rattle.wal.specs.Reads.{Reads}
-use Rattle.log_laws.proofs.Histories.{first_at_base, record_above, record_within}
+use Rattle.log_laws.proofs.Histories.{base_of_first, first_at_base, record_above, record_within, size_of_first_le}
 use Rattle.tables.specs.Tables.{TablesContent}
 use Rattle.pieces.specs.declared.mark.Mark.{Mark}
 use Rattle.pieces.specs.Pieces.{IsMark}
@@ -15,9 +16,10 @@ use Rattle.redo.specs.declared.wanted.Wanted.{Wanted}
 use Rattle.redo.specs.Inputs.{InputContent, input_over}
 use Rattle.redo.specs.Parts.{redo_page_in, image_at}
 use Rattle.redo.specs.Routes.{skipped}
-use Rattle.redo.specs.OnePass.{AreUpTo}
+use Rattle.redo.specs.Counted.{is_applied, lasts_in, AreCounted}
 use Rattle.redo.specs.Passing.{TalliesSoFar}
 use Rattle.redo.specs.Redone.{IsLookedAt, AllExist, ExistBelow}
+use Rattle.redo.proofs.Counted.{none_lasts}
 use Rattle.redo.proofs.LastRecords.{in_slot}
 use Rattle.redo.proofs.Stretches.{skipped_some}
 use Rattle.redo.proofs.Replay.{skips_none}
@@ -43,33 +45,44 @@ pub exist_before : (whole : LogContent) (count redo_lsn lsn : ℕ) → lsn ≤ s
 exist_before whole count redo_lsn lsn le k r looked below found =
     absurd (none_looked_at (base_lsn (history whole)) redo_lsn (last_lsn (history whole)) k (omega (arith, le, below)) (record_above (history whole) k r found) looked)
 
-pub tallied_first : (whole : LogContent) (images : List Page) (tables : TablesContent) (base lsn : ℕ) (scan : TalliesSoFar) → AreNumbered images → scan.redo_lsn ≡ tables.redo_lsn → scan.upto ≤ lsn → base ≡ base_lsn (history whole)
-    → lsn ≤ last_lsn (history whole) → lsn ≤ skipped (base_lsn (history whole)) tables.redo_lsn (last_lsn (history whole)) → AreUpTo (input_over whole images tables) base scan.tallies
+pub tallied_first : (whole : LogContent) (images : List Page) (tables : TablesContent) (base lsn : ℕ) (scan : TalliesSoFar) → AreNumbered images → scan.redo_lsn ≡ tables.redo_lsn → scan.upto ≤ lsn → base ≡ base_lsn (history whole) → base ≤ lsn
+    → lsn ≤ last_lsn (history whole) → lsn ≤ skipped (base_lsn (history whole)) tables.redo_lsn (last_lsn (history whole)) → AreCounted (input_over whole images tables) base scan.tallies
     → AreTalliedUpTo whole images tables lsn scan
-tallied_first whole images tables base lsn scan numbered from upto at within before up =
+tallied_first whole images tables base lsn scan numbered from upto at low within before up =
     let input : InputContent = input_over whole images tables in
     record {
       numbered = numbered;
       from = sym from;
       upto = upto;
       tallied = record {
-        count = up.count;
-        each = λ k t lt.
-            up.each k t lt
-            ∙ (ap (λ h. redo_page_in input h (image_at images k)) (first_at_base (history whole) base at ∙ ap (λ n. start n) at)
-            ∙ sym (skips_none input (image_at images k) lsn before within));
+        redone = record {
+          count = up.redone.count;
+          each = λ k t lt.
+              up.redone.each k t lt
+              ∙ (ap (λ h. redo_page_in input h (image_at images k)) (first_at_base (history whole) base at ∙ ap (λ n. start n) at)
+              ∙ sym (skips_none input (image_at images k) lsn before within));
+        };
+        lasts = λ k t lt.
+            let image = image_at images k in
+            let of : History → List ℕ = lasts_in (is_applied tables.dirty tables.redo_lsn image) image.number in
+            let front = first lsn (history whole) in
+            let begins : base_lsn front ≡ base_lsn (history whole) = base_of_first lsn (history whole) in
+            up.lasts k t lt
+            ∙ (ap of (first_at_base (history whole) base at ∙ ap (λ n. start n) (at ∙ sym begins))
+            ∙ sym (none_lasts (rec_lsn_of image.number tables.dirty) tables.redo_lsn image front
+            (λ n above upto. none_looked_at (base_lsn (history whole)) tables.redo_lsn (last_lsn (history whole)) n (omega (arith, upto, size_of_first_le lsn (history whole) (omega (arith, at, low)), before)) (omega (arith, above, begins)))));
       };
       exist = exist_before whole (length images) tables.redo_lsn lsn before;
     }
 
 -- at the mark from which the log is read
 pub tallied_from : (text : List ℕ) (whole before : LogContent) (torn : ℕ) (images : List Page) (tables : TablesContent) (base : ℕ) (from : Mark) (scan : TalliesSoFar) → AreNumbered images → Reads text whole torn → IsMark text before from
-    → base ≡ base_lsn (history whole) → scan.redo_lsn ≡ tables.redo_lsn → scan.upto ≡ base → from.lsn ≤ skipped (base_lsn (history whole)) tables.redo_lsn (last_lsn (history whole)) → AreUpTo (input_over whole images tables) base scan.tallies
+    → base ≡ base_lsn (history whole) → scan.redo_lsn ≡ tables.redo_lsn → scan.upto ≡ base → from.lsn ≤ skipped (base_lsn (history whole)) tables.redo_lsn (last_lsn (history whole)) → AreCounted (input_over whole images tables) base scan.tallies
     → AreTalliedUpTo whole images tables (last_lsn (history before)) scan
 tallied_from text whole before torn images tables base from scan numbered reads own at redo_lsn upto skips up =
     let within = mark_within text whole before torn from reads own in
     subst (λ n. AreTalliedUpTo whole images tables n scan) own.lsn
-    (tallied_first whole images tables base from.lsn scan numbered redo_lsn (omega (arith, upto, at, within.0)) at within.1 skips up)
+    (tallied_first whole images tables base from.lsn scan numbered redo_lsn (omega (arith, upto, at, within.0)) at (omega (arith, at, within.0)) within.1 skips up)
 
 -- at the end of the log
 pub exist_all : (whole : LogContent) (count redo_lsn : ℕ) → ExistBelow whole count redo_lsn (last_lsn (history whole) + 1) → AllExist whole count redo_lsn

@@ -8,7 +8,7 @@ use Rattle.log_laws.specs.Records.{LogContent, history, base_lsn, last_lsn}
 use Rattle.wal.specs.Reads.{Reads}
 use Rattle.tables.specs.Tables.{TablesContent}
 use Rattle.redo.specs.Inputs.{input_over}
-use Rattle.redo.specs.OnePass.{AreUpTo}
+use Rattle.redo.specs.Counted.{AreCounted}
 use Rattle.redo.specs.Passing.{TalliesSoFar}
 use Rattle.redo.specs.Redone.{ExistBelow, RedoFault, RepeatsHistory}
 use Rattle.redo.specs.Routes.{skipped}
@@ -26,13 +26,14 @@ abbrev pub RedoCause : LogContent → (count redo_lsn : ℕ) → PassFault → T
 RedoCause whole count redo_lsn fault.Failed = ⊤
 RedoCause whole count redo_lsn (fault.Fault e) = RedoFault whole count redo_lsn 1 e
 
--- TALLIED. The tallies describe the pages of a store, each at its number, as the records of the whole log up to an LSN leave them.
+-- TALLIED. The tallies describe the pages of a store, each at its number, as the records of the whole log up to an LSN leave them, and
+-- have the last of these for each slot.
 -- Each of these records that redo looks at is on a page of the store.
 pub record AreTalliedUpTo (whole : LogContent) (images : List Page) (tables : TablesContent) (lsn : ℕ) (scan : TalliesSoFar) : Type 0 where
   pub numbered : AreNumbered images
   pub from : tables.redo_lsn ≡ scan.redo_lsn
   pub upto : scan.upto ≤ lsn
-  pub tallied : AreUpTo (input_over whole images tables) lsn scan.tallies
+  pub tallied : AreCounted (input_over whole images tables) lsn scan.tallies
   pub exist : ExistBelow whole (length images) tables.redo_lsn (lsn + 1)
 
 -- redo looks at none of the records before this mark

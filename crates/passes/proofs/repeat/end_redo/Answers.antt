@@ -15,7 +15,7 @@ pub returns-clause-redone : goal.returns-clause-redone
 returns-clause-redone g c = λ text whole torn is reads marks tables images stored tallied shows.
     let input : InputContent = input_over whole images tables in
     let tallies = c.args.scan.tallies in
-    let all : AreAllTallied input tallies = all_tallied_alone input tallied.numbered (last_lsn (history whole)) tallies tallied.tallied (omega arith) in
+    let all : AreAllTallied input tallies = all_tallied_alone input tallied.numbered (last_lsn (history whole)) tallies tallied.tallied.redone (omega arith) in
     let (after, shown, finished) = c.in_ok-finish_in_pieces.ensures.each text whole torn is reads marks stored images tallied.numbered shows in
     let told : sum_by (λ (t : Tally). t.applied) tallies ≡ sum (map (applied_to whole tables) images) = total_is input tallies all tallies refl in (
       after,
