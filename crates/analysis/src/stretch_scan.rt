@@ -15,7 +15,10 @@ use wal::Glance;
 
 /// What the records of a stretch of the log do to the transaction table. A stretch is the records
 /// after one LSN, up to another. The table before them need not be known, so several threads can
-/// look at one stretch each. [`TransactionScan::join`] then applies them in the order of the log.
+/// look at one stretch each. [`TransactionScan::join`] then joins these in the order of the log.
+///
+/// Besides the entries it lists a number for each commit, each end, and each CLR whose UndoNxtLSN
+/// is 0.
 #[derive(Drop)]
 pub struct StretchScan {
     pub(crate) scan: TransactionScan,
@@ -31,8 +34,8 @@ impl Model for StretchScan {
     ghost view = { λ s. record { entries = s.scan; finished = s.finished.items; undone = s.undone.items } };
 }
 
-/// Lists the transaction of a record, if it finishes there, and if a CLR leaves nothing of it to
-/// undo.
+/// Lists the transaction of a record: as finished at a commit and an end, and as undone at a CLR
+/// whose UndoNxtLSN is 0.
 #[inline(always)]
 fn list_transaction(
     finished: &mut Vec<u32>,
@@ -72,14 +75,15 @@ impl StretchScan {
         }
     }
 
-    /// Notes what the record at an LSN does to the table. The record is given at a glance.
+    /// Notes what the record at an LSN does to the table. The record is given at a glance. The first
+    /// LSN is 1.
     ///
     /// The only error is `NoResource`, if memory was refused. The scan must then be begun again.
     #[inline(always)]
     pub fn note(&mut self, lsn: u64, glance: Glance) -> Result<(), Fault>
         requires { 1 ≤ lsn }
         ensures entries { OnOk result (AddsRecord lsn glance self.old self.new) }
-        // The same of the log that was read.
+        // If the scan told what the records before it do, it now tells what these and it do.
         ensures tells { OnOk result (TellsRecord lsn glance self.old self.new) }
         ensures err { IsOkUnless result NoResource }
     {
