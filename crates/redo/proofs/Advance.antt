@@ -23,12 +23,12 @@ redone_above None redo_lsn k n e = absurd (cc)
 redone_above (Some x) redo_lsn k n e = ltb-true k n (and_parts (leb redo_lsn n) (ltb k n) (and_parts (not (eqb redo_lsn 0)) (leb redo_lsn n && ltb k n) (and_parts (leb x n) (not (eqb redo_lsn 0) && (leb redo_lsn n && ltb k n)) e).1).1).1
 
 -- whether a record is redone depends on no more than that
-redone_same : (rec_lsn : Option ℕ) (redo_lsn k l n : ℕ) → ltb k n ≡ ltb l n → is_redone rec_lsn redo_lsn k n ≡ is_redone rec_lsn redo_lsn l n
+pub redone_same : (rec_lsn : Option ℕ) (redo_lsn k l n : ℕ) → ltb k n ≡ ltb l n → is_redone rec_lsn redo_lsn k n ≡ is_redone rec_lsn redo_lsn l n
 redone_same None redo_lsn k l n e = refl
 redone_same (Some x) redo_lsn k l n e = ap (λ b. leb x n && (not (eqb redo_lsn 0) && (leb redo_lsn n && b))) e
 
 -- the PageLSN during redo is the image's, or that of a record which was redone
-last_between : (rec_lsn : Option ℕ) (redo_lsn page k : ℕ) (log : History) → let l = last_where (is_redone rec_lsn redo_lsn k) page k log in (l ≡ k) ⊎ ((k < l) × (l ≤ last_lsn log))
+pub last_between : (rec_lsn : Option ℕ) (redo_lsn page k : ℕ) (log : History) → let l = last_where (is_redone rec_lsn redo_lsn k) page k log in (l ≡ k) ⊎ ((k < l) × (l ≤ last_lsn log))
 last_between rec_lsn redo_lsn page k (start _) = inl refl
 last_between rec_lsn redo_lsn page k (log ▸ r) =
     cond_both (is_on page r && is_redone rec_lsn redo_lsn k (suc (last_lsn log))) (suc (last_lsn log)) (last_where (is_redone rec_lsn redo_lsn k) page k log) (λ l. (l ≡ k) ⊎ ((k < l) × (l ≤ suc (last_lsn log))))
@@ -43,7 +43,7 @@ pub record Puts (r : LogRecord) (page slot : ℕ) (image : Image) : Type 0 where
 
 module _ (rec_lsn : Option ℕ) (redo_lsn : ℕ) (log : History) (r : LogRecord) (image : Page) where
   -- the page during redo lacks a record if and only if its image does
-  lacks_same : is_redone rec_lsn redo_lsn (last_where (is_redone rec_lsn redo_lsn image.lsn) image.number image.lsn log) (suc (last_lsn log)) ≡ is_redone rec_lsn redo_lsn image.lsn (suc (last_lsn log))
+  pub lacks_same : is_redone rec_lsn redo_lsn (last_where (is_redone rec_lsn redo_lsn image.lsn) image.number image.lsn log) (suc (last_lsn log)) ≡ is_redone rec_lsn redo_lsn image.lsn (suc (last_lsn log))
   lacks_same =
       elim (last_between rec_lsn redo_lsn image.number image.lsn log) [
         | inl e ↦ ap (λ l. is_redone rec_lsn redo_lsn l (suc (last_lsn log))) e

@@ -16,8 +16,11 @@ pub mod Totals
 pub mod Causes
 pub mod Missing
 pub mod OnePass
+pub mod LastInCell
+pub mod Counted
 pub mod Placed
 pub mod Passing
+pub mod Joining
 pub mod OneMore
 pub mod LastRecords
 pub mod LsnOrder

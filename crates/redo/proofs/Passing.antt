@@ -1,18 +1,12 @@
 -- The tallies while a log is read: before the first record, with one more, and what a piece has of the whole log.
-use Rattle.std.proofs.Common.{◌≡◌, ◌≢◌, ℕ, zero, suc, replicate, ◌<◌, ◌≤◌, true, ◌&&◌, not, eqb, leb, ltb, eq-eqb, List, [], ◌∷◌, ◌++◌, All, Option, None, Some, length, get_or, set, refl, sym, ap, ◌∙◌, subst, inl, inr, arith, length-append}
+use Rattle.std.proofs.Common.{◌≡◌, ◌≢◌, ℕ, zero, suc, replicate, ◌+◌, ◌-◌, ◌<◌, ◌≤◌, true, ◌&&◌, not, eqb, leb, ltb, eq-eqb, List, [], ◌∷◌, ◌++◌, All, Option, None, Some, length, get_or, set, refl, sym, ap, ◌∙◌, subst, inl, inr, arith, length-append}
 use Rattle.std.proofs.lemmas.Bool.{cases_Bool, cases_eq, cases_lt, cond_both, and_parts, and_from, le-leb, leb-true, lt-ltb}
 use Rattle.std.proofs.lemmas.List.{get_or-set_same, get_or-set_other, length-set, set_past}
-use Rattle.page.specs.declared.page.Page.{Page}
 use Rattle.tables.specs.Tables.{TablesContent}
-use Rattle.log_laws.specs.Records.{LogContent, start, history, base_lsn}
 use Rattle.log_laws.specs.Redo.{rec_lsn_of, is_redone}
-use Rattle.log_laws.proofs.Histories.{first_at_base}
 use Rattle.redo.specs.declared.tally.Tally.{Tally}
-use Rattle.redo.specs.Inputs.{input_over}
 use Rattle.redo.specs.Changes.{counted}
-use Rattle.redo.specs.Parts.{redo_page_in, image_at}
-use Rattle.redo.specs.OnePass.{AreUpTo}
-use Rattle.redo.specs.Passing.{StandAtNumbers, LastsAreWithin, AreRedoneBy, AreScanned, ListEach, AreBegunIn}
+use Rattle.redo.specs.Passing.{StandAtNumbers, LastsAreWithin, AreRedoneBy, AreScanned, ListEach}
 use Rattle.redo.proofs.Advance.{redone_above}
 use Rattle.redo.proofs.OnePass.{each_more}
 use Rattle.page.specs.declared.profile.TheConstants.{SLOTS}
@@ -39,7 +33,7 @@ counted_lasts : (redo_lsn lsn slot : ℕ) (t : Tally) → ((i : ℕ) → get_or 
 counted_lasts redo_lsn lsn slot t each i = cond_both (is_redone t.rec_lsn redo_lsn t.lsn lsn) _ t (λ (x : Tally). get_or x.lasts i 0 ≤ lsn) (λ _. set_within t.lasts slot lsn each i) (λ _. each i)
 
 -- a page that lacks a record lacks a later one too, whatever its PageLSN below that is
-redone_after : (rec_lsn : Option ℕ) (redo_lsn k l lsn after : ℕ) → is_redone rec_lsn redo_lsn k lsn ≡ true → lsn ≤ after → l < after → is_redone rec_lsn redo_lsn l after ≡ true
+pub redone_after : (rec_lsn : Option ℕ) (redo_lsn k l lsn after : ℕ) → is_redone rec_lsn redo_lsn k lsn ≡ true → lsn ≤ after → l < after → is_redone rec_lsn redo_lsn l after ≡ true
 redone_after None redo_lsn k l lsn after e le lt = absurd (cc)
 redone_after (Some x) redo_lsn k l lsn after e le lt =
     let listed = and_parts (leb x lsn) (not (eqb redo_lsn 0) && (leb redo_lsn lsn && ltb k lsn)) e in
@@ -77,8 +71,8 @@ module _ (redo_lsn lsn slot number : ℕ) (tallies new : List Tally) (below : nu
   pub numbered_on : StandAtNumbers tallies → StandAtNumbers new
   numbered_on each = one_set (λ k t. t.number ≡ k) (λ k t. t.number ≡ k) tallies new number (counted redo_lsn lsn slot) below is (λ k t e. e) (λ t e. counted_number redo_lsn lsn slot t ∙ e) each
 
-  pub few_on : All (λ (t : Tally). t.applied < lsn) tallies → All (λ (t : Tally). t.applied ≤ lsn) new
-  few_on each = one_set (λ k t. t.applied < lsn) (λ k t. t.applied ≤ lsn) tallies new number (counted redo_lsn lsn slot) below is (λ k t e. omega (arith, e)) (λ t e. omega (arith, counted_few redo_lsn lsn slot t, e)) each
+  pub few_on : (most : ℕ) → All (λ (t : Tally). t.applied ≤ most) tallies → All (λ (t : Tally). t.applied ≤ most + 1) new
+  few_on most each = one_set (λ k t. t.applied ≤ most) (λ k t. t.applied ≤ most + 1) tallies new number (counted redo_lsn lsn slot) below is (λ k t e. omega (arith, e)) (λ t e. omega (arith, counted_few redo_lsn lsn slot t, e)) each
 
   pub lasts_on : LastsAreWithin lsn tallies → LastsAreWithin lsn new
   lasts_on each k i t lt =
@@ -116,21 +110,15 @@ zeros zero i = refl
 zeros (suc n) zero = refl
 zeros (suc n) (suc i) = zeros n i
 
-module _ (images : List Page) (tables : TablesContent) (tallies : List Tally) (are : AreBegunIn images tables tallies) where
-  pub begun_up : (base : ℕ) (log : LogContent) → base_lsn (history log) ≡ base → AreUpTo (input_over log images tables) base tallies
-  begun_up base log at = record {
-    count = are.count;
-    each = λ k t lt. (are.each k t lt).begun log ∙ ap (λ h. redo_page_in (input_over log images tables) h (image_at images k)) (ap start at ∙ sym (first_at_base (history log) base (sym at)));
-  }
-
 -- one more tally, of a page to which no record is applied
-pub scanned_more : (redo_lsn : ℕ) (tallies : List Tally) (tally : Tally) → tally.number ≡ length tallies → tally.applied ≡ 0 → tally.lasts ≡ replicate SLOTS 0 → AreScanned redo_lsn 0 tallies
-    → AreScanned redo_lsn 0 (tallies ++ tally ∷ [])
+pub scanned_more : (redo_lsn : ℕ) (tallies : List Tally) (tally : Tally) → tally.number ≡ length tallies → tally.applied ≡ 0 → tally.lasts ≡ replicate SLOTS 0 → AreScanned redo_lsn 0 0 tallies
+    → AreScanned redo_lsn 0 0 (tallies ++ tally ∷ [])
 scanned_more redo_lsn tallies tally number applied lasts before =
     let count = length-append tallies (tally ∷ []) in
     record {
+      rising = omega arith;
       numbered = λ k t lt. each_more (λ k t. t.number ≡ k) (length tallies) tallies tally refl before.numbered number k t (omega (arith, lt, count));
-      few = λ k t lt. each_more (λ _ t. t.applied ≤ 0) (length tallies) tallies tally refl before.few (omega (arith, applied)) k t (omega (arith, lt, count));
+      few = λ k t lt. each_more (λ _ t. t.applied ≤ 0 - 0) (length tallies) tallies tally refl before.few (omega (arith, applied)) k t (omega (arith, lt, count));
       lasts = λ k slot t lt.
           each_more (λ _ t. get_or t.lasts slot 0 ≤ 0) (length tallies) tallies tally refl (λ k t lt. before.lasts k slot t lt)
           (omega (arith, ap (λ xs. get_or xs slot 0) lasts, zeros SLOTS slot)) k t (omega (arith, lt, count));
@@ -138,11 +126,12 @@ scanned_more redo_lsn tallies tally number applied lasts before =
           each_more (λ _ t. (t.applied ≡ 0 → ⊥) → is_redone t.rec_lsn redo_lsn t.lsn lsn ≡ true) (length tallies) tallies tally refl (before.later lsn up) (λ some. absurd (some applied)) k t (omega (arith, lt, count));
     }
 
--- up to a later LSN
-pub kept_on : (redo_lsn upto lsn : ℕ) (tallies : List Tally) → upto ≤ lsn → AreScanned redo_lsn upto tallies → AreScanned redo_lsn lsn tallies
-kept_on redo_lsn upto lsn tallies le kept = record {
+-- from any LSN on
+pub kept_on : (redo_lsn base : ℕ) (tallies : List Tally) → AreScanned redo_lsn 0 0 tallies → AreScanned redo_lsn base base tallies
+kept_on redo_lsn base tallies kept = record {
   numbered = kept.numbered;
-  few = λ k t lt. omega (arith, kept.few k t lt, le);
-  lasts = λ k slot t lt. omega (arith, kept.lasts k slot t lt, le);
-  later = λ after lt. kept.later after (omega (arith, lt, le));
+  rising = omega arith;
+  few = λ k t lt. omega (arith, kept.few k t lt);
+  lasts = λ k slot t lt. omega (arith, kept.lasts k slot t lt);
+  later = λ after lt. kept.later after (omega (arith, lt));
 }

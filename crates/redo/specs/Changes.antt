@@ -91,6 +91,11 @@ counted redo_lsn lsn slot t =
     then record { number = t.number; lsn = lsn; rec_lsn = t.rec_lsn; applied = suc t.applied; lasts = slice_set t.lasts slot lsn }
     else t
 
+-- a record in a cell counted, if the cell is of this page
+abbrev pub counted_by : (redo_lsn lsn : ℕ) → Option (ℕ × ℕ) → Tally → Tally
+counted_by redo_lsn lsn None t = t
+counted_by redo_lsn lsn (Some cell) t = if cell.0 == t.number then counted redo_lsn lsn cell.1 t else t
+
 -- what a slot holds, by the LSN of its last record; 0 says that there is none
 abbrev pub held_after : History → (lsn : ℕ) → Image → Image
 held_after log lsn image = if lsn == 0 then image else image_in (record_at log lsn)

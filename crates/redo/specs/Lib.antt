@@ -7,7 +7,9 @@ pub mod Parted
 pub mod Routes
 pub mod Parts
 pub mod OnePass
+pub mod Counted
 pub mod Placed
 pub mod Passing
+pub mod Joined
 pub mod Wanted
 pub mod Redone

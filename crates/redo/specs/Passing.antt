@@ -1,6 +1,6 @@
 -- PASSING. The tallies of redo while a log is read record after record, and what a piece has of it: each piece is a log, and begins after
 -- the last LSN of the one before it (own).
-use Rattle.std.specs.Prelude.{◌≡◌, ℕ, ◌+◌, ◌<◌, ◌≤◌, List, Some, length, slice_index_or, replicate, All, true}
+use Rattle.std.specs.Prelude.{◌≡◌, ℕ, ◌+◌, ◌-◌, ◌<◌, ◌≤◌, List, Some, length, slice_index_or, replicate, All, true}
 use Rattle.page.specs.declared.fault.Fault.{Fault}
 use Rattle.page.specs.declared.page.Page.{Page}
 use Rattle.page.specs.Store.{AreNumbered}
@@ -15,14 +15,15 @@ use Rattle.redo.specs.declared.tally.Tally.{Tally}
 use Rattle.redo.specs.Inputs.{InputContent, input_over}
 use Rattle.redo.specs.Parts.{redo_page_in, image_at, resolved}
 use Rattle.redo.specs.Changes.{NamesBelow}
-use Rattle.redo.specs.OnePass.{AreUpTo}
+use Rattle.redo.specs.Counted.{AreCounted}
 use Rattle.redo.specs.Redone.{IsLookedAt}
 use Rattle.redo.specs.Routes.{NoteFault}
 
--- the tallies of all pages, from which LSN on records are looked at, and an LSN above which none was counted
+-- the tallies of all pages, from which LSN on records are looked at, an LSN up to which no record was counted, and one above which none was
 pub record TalliesSoFar : Type 0 where
   pub tallies : List Tally
   pub redo_lsn : ℕ
+  pub base : ℕ
   pub upto : ℕ
 
 -- each tally is at the number of its page
@@ -37,10 +38,11 @@ LastsAreWithin lsn tallies = (k slot : ℕ) (t : Tally) → k < length tallies �
 abbrev pub AreRedoneBy : (redo_lsn lsn : ℕ) → List Tally → Type 0
 AreRedoneBy redo_lsn lsn tallies = All (λ (t : Tally). (t.applied ≡ 0 → ⊥) → is_redone t.rec_lsn redo_lsn t.lsn lsn ≡ true) tallies
 
--- what holds for the tallies of each scan that looks at records from redo_lsn on, if no record above an LSN was counted
-pub record AreScanned (redo_lsn upto : ℕ) (tallies : List Tally) : Type 0 where
+-- what holds for the tallies of each scan that looks at records from redo_lsn on, if only records above one LSN and up to another were counted
+pub record AreScanned (redo_lsn base upto : ℕ) (tallies : List Tally) : Type 0 where
   pub numbered : StandAtNumbers tallies
-  pub few : All (λ (t : Tally). t.applied ≤ upto) tallies
+  pub rising : base ≤ upto
+  pub few : All (λ (t : Tally). t.applied ≤ upto - base) tallies
   pub lasts : LastsAreWithin upto tallies
   pub later : (lsn : ℕ) → upto < lsn → AreRedoneBy redo_lsn lsn tallies
 
@@ -75,7 +77,7 @@ pub record IsRecordFor (input : InputContent) (redo_lsn lsn : ℕ) (glance : Gla
 
 -- A SCAN LOOKS AT THE RECORD AFTER AN LSN, which is seen so at a glance: it has counted it, for each log that it can be of
 abbrev pub CountsRecord : (lsn : ℕ) → Glance → (old new : TalliesSoFar) → Type 0
-CountsRecord lsn glance old new = (input : InputContent) → IsRecordFor input old.redo_lsn (lsn + 1) glance → AreUpTo input lsn old.tallies → AreUpTo input (lsn + 1) new.tallies
+CountsRecord lsn glance old new = (input : InputContent) → IsRecordFor input old.redo_lsn (lsn + 1) glance → AreCounted input lsn old.tallies → AreCounted input (lsn + 1) new.tallies
 
 -- if redo looks at it, it is on no page that the store lacks
 abbrev pub FindsPage : (lsn : ℕ) → Glance → TalliesSoFar → Type 0

@@ -22,11 +22,12 @@ tally_of kept rec_lsns page = record { number = page.number; lsn = page.lsn; rec
 abbrev pub tallies_of : (kept : List (List ℕ)) (rec_lsns : List (Option ℕ)) → List PlacedPage → List Tally
 tallies_of kept rec_lsns pages = map (tally_of kept rec_lsns) pages
 
--- a page is at this number; its place is there, and it has one only if a record was applied to it
+-- a page is at this number; its place is there, and it has one if and only if a record was applied to it
 pub record IsPlaced (kept : List (List ℕ)) (k : ℕ) (page : PlacedPage) : Type 0 where
   pub number : page.number ≡ k
   pub within : page.place ≤ length kept
   pub touched : (page.place ≡ 0 → ⊥) → page.applied ≡ 0 → ⊥
+  pub idle : page.place ≡ 0 → page.applied ≡ 0
 
 -- the same for all pages; no two have one place, and each has a RecLSN
 pub record ArePlaced (kept : List (List ℕ)) (rec_lsns : List (Option ℕ)) (pages : List PlacedPage) : Type 0 where

@@ -21,9 +21,11 @@
 //!   images into the pages.
 //! - `one_pass`, `watch`, `unthreaded`: one pass over the records in place of the rounds, for one
 //!   worker or no threads (`OnePass`).
-//! - `tally_scan`, `tally_table`, `wanted`, `ordered`, `fetch`: a log that is read record after
-//!   record, with tallies only for pages that change, and then the images of the last records in
-//!   pieces of the log (`Passing`, `Placed`, `Wanted`).
+//! - `tally_scan`, `tally_table`, `kept`, `wanted`, `ordered`, `fetch`: a log that is read record
+//!   after record, with tallies only for pages that change, and then the images of the last records
+//!   in pieces of the log (`Passing`, `Placed`, `Wanted`).
+//! - `join`: the tallies of one stretch of the log joined with those of a later one (`Counted`,
+//!   `Joined`).
 //! - `laws`: redo has at most one fault.
 #![tactic(auto)]
 
@@ -33,6 +35,8 @@ mod finish;
 mod gate;
 mod gather;
 mod input;
+mod join;
+mod kept;
 mod laws;
 mod lists;
 mod note;

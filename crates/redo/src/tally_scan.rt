@@ -10,7 +10,8 @@ ghost use Rattle.wal.specs.Glances.{glance_of};
 ghost use Rattle.tables.specs.Tables.{TablesContent};
 ghost use Rattle.changes.specs.Numbered.{StayNumbered};
 ghost use Rattle.redo.specs.Inputs.{InputContent, input_over};
-ghost use Rattle.redo.specs.OnePass.{AreUpTo};
+ghost use Rattle.redo.specs.Counted.{AreCounted};
+ghost use Rattle.redo.specs.Joined.{JoinsStretches, JoinsPages};
 ghost use Rattle.redo.specs.Routes.{IsSeen, NoteFault};
 ghost use Rattle.redo.specs.Passing.{ListEach, IsRecordFor, CountsRecord, FindsPage, TakeFault};
 ghost use Rattle.redo.specs.Wanted.{IsWanted, HoldAllBut, ShowAllBut, ShowFinished};
@@ -20,6 +21,7 @@ ghost use Rattle.page.specs.declared.profile.TheConstants.{SLOTS};
 ghost use Rattle.page.specs.declared.page.Page.{Page};
 
 use crate::fetch::set_page_lsns;
+use crate::join::join_each;
 use crate::ordered::by_lsn;
 use crate::tally_table::{TallyTable, begin_each, begin_each_listed, count_seen};
 use crate::wanted::Wanted;
@@ -32,12 +34,13 @@ use wal::Glance;
 
 /// The tallies of all pages of a store while a log is read: for each slot, which is the last of the
 /// records that its page lacks. The records are given one by one in the order of the log, up to its
-/// last. Contracts see the tallies, the LSN from which records are looked at, and an LSN above
-/// which none was counted.
+/// last. Contracts see the tallies, the LSN from which records are looked at, the base LSN, up to
+/// which none was counted, and an LSN above which none was counted.
 #[derive(Drop)]
 pub struct TallyScan {
     tallies: TallyTable,
     redo_lsn: u64,
+    base: u64,
     upto: u64,
 }
 
@@ -46,9 +49,9 @@ impl Model for TallyScan {
 
     ghost Value = { TalliesSoFar };
 
-    ghost view = { λ s. record { tallies = s.tallies; redo_lsn = s.redo_lsn; upto = s.upto } };
+    ghost view = { λ s. record { tallies = s.tallies; redo_lsn = s.redo_lsn; base = s.base; upto = s.upto } };
 
-    ghost invariant = { λ s. AreScanned s.redo_lsn s.upto s.tallies };
+    ghost invariant = { λ s. AreScanned s.redo_lsn s.base s.upto s.tallies };
 }
 
 impl TallyScan {
@@ -63,9 +66,15 @@ impl TallyScan {
         ensures begun { IfOk result (λ scan. (stored shown : List Page)
             → P.shows pages.now stored shown → AreNumbered shown
             → (log : LogContent) → base_lsn (history log) ≡ base
-            → AreUpTo (input_over log shown tables.now) base scan.tallies) }
+            → AreCounted (input_over log shown tables.now) base scan.tallies) }
+        // The same for a log that begins earlier, if redo begins after the base LSN.
+        ensures ahead { IfOk result (λ scan. (stored shown : List Page)
+            → P.shows pages.now stored shown → AreNumbered shown → base < tables.now.redo_lsn
+            → (log : LogContent) → base_lsn (history log) ≤ base
+            → AreCounted (input_over log shown tables.now) base scan.tallies) }
         ensures count { IfOk result (λ scan. length scan.tallies ≡ P.count pages.now) }
         ensures redo_lsn { IfOk result (λ scan. scan.redo_lsn ≡ tables.now.redo_lsn) }
+        ensures base { IfOk result (λ scan. scan.base ≡ base) }
         ensures upto { IfOk result (λ scan. scan.upto ≡ base) }
         ensures err { IsOkUnless result NoResource }
     {
@@ -73,13 +82,15 @@ impl TallyScan {
         Ok(TallyScan {
             tallies,
             redo_lsn: tables.redo_lsn,
+            base,
             upto: base,
         })
     }
 
     /// The scan before the first record of a log with this base LSN, with each page of the store
     /// listed as dirty from the LSN `first` on. Redo begins there too, and no tables are needed. No
-    /// record is applied to the pages. The only error is `NoResource`.
+    /// record is applied to the pages. If `first` is after the base LSN, the log may begin earlier:
+    /// the scan is then that of a later stretch. The only error is `NoResource`.
     pub fn begin_listed<P: Pages>(
         alloc: Global,
         pages: &P,
@@ -90,9 +101,16 @@ impl TallyScan {
             → P.shows pages.now stored shown → AreNumbered shown
             → (log : LogContent) (tables : TablesContent)
             → base_lsn (history log) ≡ base → ListEach (P.count pages.now) first tables
-            → AreUpTo (input_over log shown tables) base scan.tallies) }
+            → AreCounted (input_over log shown tables) base scan.tallies) }
+        // The same for a log that begins earlier, if `first` is after the base LSN.
+        ensures ahead { IfOk result (λ scan. (stored shown : List Page)
+            → P.shows pages.now stored shown → AreNumbered shown → base < first
+            → (log : LogContent) (tables : TablesContent)
+            → base_lsn (history log) ≤ base → ListEach (P.count pages.now) first tables
+            → AreCounted (input_over log shown tables) base scan.tallies) }
         ensures count { IfOk result (λ scan. length scan.tallies ≡ P.count pages.now) }
         ensures redo_lsn { IfOk result (λ scan. scan.redo_lsn ≡ first) }
+        ensures base { IfOk result (λ scan. scan.base ≡ base) }
         ensures upto { IfOk result (λ scan. scan.upto ≡ base) }
         ensures err { IsOkUnless result NoResource }
     {
@@ -100,6 +118,7 @@ impl TallyScan {
         Ok(TallyScan {
             tallies,
             redo_lsn: first,
+            base,
             upto: base,
         })
     }
@@ -115,7 +134,7 @@ impl TallyScan {
         // then have it too.
         ensures goes_on { OnOk result ((input : InputContent)
             → IsRecordFor input self.old.redo_lsn lsn glance
-            → AreUpTo input (lsn - 1) self.old.tallies → AreUpTo input lsn self.new.tallies) }
+            → AreCounted input (lsn - 1) self.old.tallies → AreCounted input lsn self.new.tallies) }
         ensures exists { OnOk result ((r : LogRecord) → glance ≡ glance_of r
             → NamesBelow (length self.old.tallies) r) }
         ensures fault { IfErr result (λ e. (r : LogRecord) → glance ≡ glance_of r
@@ -124,6 +143,7 @@ impl TallyScan {
 
         ensures count { length self.new.tallies ≡ length self.old.tallies }
         ensures redo_lsn { self.new.redo_lsn ≡ self.old.redo_lsn }
+        ensures base { self.new.base ≡ self.old.base }
         ensures upto { OnOk result (self.new.upto ≡ lsn) }
     {
         count_seen(&mut self.tallies, self.redo_lsn, lsn, glance)?;
@@ -149,6 +169,7 @@ impl TallyScan {
 
         ensures count { length self.new.tallies ≡ length self.old.tallies }
         ensures redo_lsn { self.new.redo_lsn ≡ self.old.redo_lsn }
+        ensures base { self.new.base ≡ self.old.base }
         ensures upto { self.new.upto ≤ lsn + 1 }
     {
         if self.redo_lsn == 0 || lsn + 1 < self.redo_lsn {
@@ -156,6 +177,30 @@ impl TallyScan {
         }
         self.note(glance, lsn + 1)?;
         Ok(())
+    }
+
+    /// Joins the scan with that of a later stretch of the log, which began with the same PageLSNs.
+    /// It then has the records of both. `later` stays as it is. Takes memory for each page to which
+    /// a record was applied only there.
+    ///
+    /// The only error is `NoResource`. Some pages are joined then, and others are not: drop the
+    /// scan, since it is that of no log.
+    pub fn join(&mut self, later: &TallyScan) -> Result<(), Fault>
+        requires pages { length later.now.tallies ≡ length self.old.tallies }
+        requires upto { self.old.upto ≤ later.now.base }
+        ensures joined { OnOk result (JoinsStretches self.old later.now self.new) }
+        ensures each { JoinsPages self.old later.now self.new }
+        ensures err { IsOkUnless result NoResource }
+
+        ensures count { length self.new.tallies ≡ length self.old.tallies }
+        ensures redo_lsn { self.new.redo_lsn ≡ self.old.redo_lsn }
+        ensures base { self.new.base ≡ self.old.base }
+        ensures upto { self.new.upto ≡ later.now.upto }
+    {
+        let upto = later.upto();
+        let joined = join_each(&mut self.tallies, self.redo_lsn, &later.tallies);
+        self.upto = upto;
+        joined
     }
 
     /// An LSN above which no record was counted.
@@ -218,6 +263,7 @@ impl TallyScan {
         let TallyScan {
             tallies,
             redo_lsn: _,
+            base: _,
             upto: _,
         } = self;
         set_page_lsns(&tallies, pages);

@@ -6,20 +6,23 @@ ghost use Rattle.page.specs.declared.page.Page.{Page};
 ghost use Rattle.page.specs.declared.profile.TheConstants.{SLOTS};
 ghost use Rattle.page.specs.Store.{AreNumbered};
 ghost use Rattle.log_laws.specs.Records.{LogRecord, history, record_at};
+ghost use Rattle.log_laws.specs.Meaning.{cell_of};
 ghost use Rattle.wal.specs.Glances.{glance_of};
 ghost use Rattle.log_laws.specs.Redo.{rec_lsn_of, is_redone};
 ghost use Rattle.tables.specs.Tables.{TablesContent};
 ghost use Rattle.redo.specs.Inputs.{InputContent};
-ghost use Rattle.redo.specs.Changes.{NamesBelow, advance, counted};
+ghost use Rattle.redo.specs.Changes.{NamesBelow, advance, counted, counted_by};
 ghost use Rattle.redo.specs.Routes.{NoteFault, IsSeen};
 ghost use Rattle.redo.specs.Parts.{resolved};
 ghost use Rattle.redo.specs.Passing.{StandAtNumbers, LastsAreWithin, AreRedoneBy, AreScanned, IsBegunIn, AreBegunIn, ListEach};
 ghost use Rattle.redo.specs.Placed.{untouched, tallies_of, ArePlaced, page_first, kept_first};
+ghost use Rattle.redo.specs.Joined.{joined};
 ghost use Rattle.redo.specs.Wanted.{IsLastIn};
 ghost use Rattle.redo.specs.declared.tally.Tally.{Tally};
 ghost use Rattle.redo.specs.declared.tally_table.PlacedPage.{PlacedPage};
 ghost use Rattle.redo.specs.declared.wanted.Wanted.{Wanted};
 
+use crate::kept::{count_lasts, keep, keep_joined};
 use crate::tally::is_redone;
 use crate::wanted::{Wanted, want_slots};
 use changes::Pages;
@@ -60,29 +63,6 @@ impl Model for TallyTable {
     ghost view = { λ t. tallies_of t.kept.items t.rec_lsns.items t.pages.items };
 
     ghost invariant = { λ t. ArePlaced t.kept.items t.rec_lsns.items t.pages.items };
-}
-
-/// How many slots a page has. A function of its own, as `count_slots`.
-fn count_lasts(lasts: &[u64; SLOTS]) -> usize
-    ensures { length lasts.now ≡ SLOTS }
-{
-    lasts.len()
-}
-
-/// Adds the last records of a page after others. Returns their place, counted from 1. The only
-/// error is `NoResource`; nothing has changed then.
-fn keep(kept: &mut Vec<[u64; SLOTS]>, lasts: [u64; SLOTS]) -> Result<u32, Fault>
-    ensures kept { OnOk result (kept.new.items ≡ kept.old.items ++ lasts ∷ []) }
-    ensures place { IfOk result (λ place. place ≡ length kept.old.items + 1) }
-    ensures same { OnErr result (kept.new.items ≡ kept.old.items) }
-    ensures err { IsOkUnless result NoResource }
-{
-    let count = kept.len();
-    if count >= u32::MAX as usize {
-        return Err(Fault::NoResource);
-    }
-    kept.push(lasts)?;
-    Ok(count as u32 + 1)
 }
 
 /// Counts the record at an LSN, which is in a slot, for a page that has no place, if the page lacks
@@ -234,6 +214,35 @@ impl TallyTable {
         self.kept[page.place as usize - 1][slot] = lsn;
         Ok(())
     }
+
+    /// Joins the tally of a page with that of a later stretch of the log, if records were applied
+    /// to the page there and the page lacks the last of them. The only error is `NoResource`;
+    /// nothing has changed then.
+    pub fn join(&mut self, number: usize, redo_lsn: u64, later: &TallyTable) -> Result<(), Fault>
+        requires page { number < length self.old }
+        requires later { number < length later.now }
+        requires room { (t : Tally) → (slice_index_or self.old number t).applied
+            + (slice_index_or later.now number t).applied < 2 ^ 64 }
+        ensures joined { OnOk result ((t : Tally) → self.new ≡ slice_set self.old number
+            (joined redo_lsn (slice_index_or self.old number t)
+            (slice_index_or later.now number t))) }
+        ensures same { OnErr result (self.new ≡ self.old) }
+        ensures err { IsOkUnless result NoResource }
+    {
+        let other = later.pages[number];
+        if other.place == 0 {
+            return Ok(());
+        }
+        let page = &mut self.pages[number];
+        if !is_redone(self.rec_lsns[number], redo_lsn, page.lsn, other.lsn) {
+            return Ok(());
+        }
+        let lasts = &later.kept[other.place as usize - 1];
+        page.place = keep_joined(&mut self.kept, page.place, lasts)?;
+        page.lsn = other.lsn;
+        page.applied += other.applied;
+        Ok(())
+    }
 }
 
 /// How many pages there are. The only error is `NoResource`, if they are 2^32 or more, which no store has.
@@ -264,8 +273,8 @@ pub fn begin_each<P: Pages>(alloc: Global, pages: &P, tables: &Tables) -> Result
         → AreBegunIn shown tables.now tallies) }
     ensures count { IfOk result (λ tallies. length tallies ≡ P.count pages.now) }
     // Numbers, counts and last records do not depend on what the pages hold.
-    ensures scanned { IfOk result (λ tallies. (redo_lsn upto : ℕ)
-        → AreScanned redo_lsn upto tallies) }
+    ensures scanned { IfOk result (λ tallies. (redo_lsn base : ℕ)
+        → AreScanned redo_lsn base base tallies) }
     ensures err { IsOkUnless result NoResource }
 {
     let count = page_count(pages)?;
@@ -288,8 +297,8 @@ pub fn begin_each_listed<P: Pages>(
         → ListEach (P.count pages.now) first tables → AreBegunIn shown tables tallies) }
     ensures count { IfOk result (λ tallies. length tallies ≡ P.count pages.now) }
     // Numbers, counts and last records do not depend on what the pages hold.
-    ensures scanned { IfOk result (λ tallies. (redo_lsn upto : ℕ)
-        → AreScanned redo_lsn upto tallies) }
+    ensures scanned { IfOk result (λ tallies. (redo_lsn base : ℕ)
+        → AreScanned redo_lsn base base tallies) }
     ensures err { IsOkUnless result NoResource }
 {
     let count = page_count(pages)?;
@@ -312,11 +321,12 @@ pub fn count_seen(
 ) -> Result<(), Fault>
     requires seen { IsSeen glance }
     requires numbered { StandAtNumbers tallies.old }
-    requires few { All (λ t. t.applied < lsn) tallies.old }
+    requires room { All (λ t. t.applied < lsn) tallies.old }
     requires later { AreRedoneBy redo_lsn lsn tallies.old }
     ensures count { length tallies.new ≡ length tallies.old }
     ensures numbered { StandAtNumbers tallies.new }
-    ensures few { All (λ t. t.applied ≤ lsn) tallies.new }
+    ensures few { (most : ℕ) → All (λ t. t.applied ≤ most) tallies.old
+        → All (λ t. t.applied ≤ most + 1) tallies.new }
     ensures lasts { LastsAreWithin lsn tallies.old → LastsAreWithin lsn tallies.new }
     ensures later { (after : ℕ) → lsn < after → AreRedoneBy redo_lsn after tallies.new }
     ensures each { OnOk result ((input : InputContent) (r : LogRecord) (k : ℕ) (t : Tally)
@@ -324,6 +334,9 @@ pub fn count_seen(
         → record_at (history input.log) lsn ≡ Some r → k < length tallies.old
         → resolved input (slice_index_or tallies.new k t)
         ≡ advance input.redo_lsn lsn r (resolved input (slice_index_or tallies.old k t))) }
+    ensures counted { OnOk result ((r : LogRecord) (k : ℕ) (t : Tally)
+        → glance ≡ glance_of r → k < length tallies.old → slice_index_or tallies.new k t
+        ≡ counted_by redo_lsn lsn (cell_of r) (slice_index_or tallies.old k t)) }
     ensures exists { OnOk result ((r : LogRecord) → glance ≡ glance_of r
         → NamesBelow (length tallies.old) r) }
     ensures fault { IfErr result (λ e. (r : LogRecord) → glance ≡ glance_of r

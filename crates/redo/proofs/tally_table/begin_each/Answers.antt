@@ -15,7 +15,7 @@ loop-number-preserved g c =
     let items : c.push.new.self ≡ old ++ tally ∷ [] = c.in_ok-push.ensures.added in
     record {
       count = ap (λ (ts : List Tally). length ts) items ∙ omega (arith, length-append old (tally ∷ []), before.count);
-      scanned = λ redo_lsn. subst (AreScanned redo_lsn 0) (sym items) (scanned_more redo_lsn old tally (sym before.count) refl refl (before.scanned redo_lsn));
+      scanned = λ redo_lsn. subst (AreScanned redo_lsn 0 0) (sym items) (scanned_more redo_lsn old tally (sym before.count) refl refl (before.scanned redo_lsn));
       begun = λ stored shown shows numbered k t lt.
           subst (λ (ts : List Tally). IsBegunIn shown tables k (get_or ts k t)) (sym items)
           (each_more (IsBegunIn shown tables) c.loop-number.number old tally before.count (before.begun stored shown shows numbered) (c.lsn_of.ensures stored shown tables c.rec_lsn.result shows numbered (sym c.rec_lsn.ensures)) k t lt);
@@ -29,4 +29,4 @@ returns-clause-begun g c = λ stored shown shows numbered.
     record { count = before.count ∙ count; each = λ k t lt. before.begun stored shown shows numbered k t (omega (arith, lt, count)) }
 
 pub returns-clause-scanned : goal.returns-clause-scanned
-returns-clause-scanned g c = λ redo_lsn upto. kept_on redo_lsn 0 upto c.loop-number.tallies (omega arith) (c.loop-number.invariant.scanned redo_lsn)
+returns-clause-scanned g c = λ redo_lsn base. kept_on redo_lsn base c.loop-number.tallies (c.loop-number.invariant.scanned redo_lsn)

@@ -1,11 +1,12 @@
 use Rattle.std.proofs.Common.{◌≡◌, List, Some, None, length, get_or, set, refl, sym, ◌∙◌, ap, arith}
 use Rattle.std.proofs.lemmas.List.{length-set}
 use Rattle.log_laws.specs.Meaning.{cell_of}
-use Rattle.redo.specs.Changes.{counted}
+use Rattle.redo.specs.Changes.{counted, counted_by}
 use Rattle.redo.specs.Placed.{untouched}
 use Rattle.redo.specs.declared.tally.Tally.{Tally}
 use Rattle.redo.proofs.Replay.{page_of_cell}
 use Rattle.redo.proofs.OnePass.{placed}
+use Rattle.redo.proofs.Counted.{counted_each}
 use Rattle.redo.proofs.Passing.{numbered_on, few_on, lasts_on, later_on}
 use Rattle.redo.proofs.tally_table.count_seen.Goals as goal
 
@@ -24,7 +25,7 @@ pub returns-clause-numbered : goal.returns-clause-numbered
 returns-clause-numbered c = numbered_on c.args.redo_lsn c.args.lsn c.in-Some.slot c.in-Some.page c.args.tallies.now c.count.new.self (omega (arith, c.if-number-len.false, c.len.ensures)) c.in_ok-count.ensures.counted c.requires.numbered
 
 pub returns-clause-few : goal.returns-clause-few
-returns-clause-few c = few_on c.args.redo_lsn c.args.lsn c.in-Some.slot c.in-Some.page c.args.tallies.now c.count.new.self (omega (arith, c.if-number-len.false, c.len.ensures)) c.in_ok-count.ensures.counted c.requires.few
+returns-clause-few c = λ most. few_on c.args.redo_lsn c.args.lsn c.in-Some.slot c.in-Some.page c.args.tallies.now c.count.new.self (omega (arith, c.if-number-len.false, c.len.ensures)) c.in_ok-count.ensures.counted most
 
 pub returns-clause-lasts : goal.returns-clause-lasts
 returns-clause-lasts c = lasts_on c.args.redo_lsn c.args.lsn c.in-Some.slot c.in-Some.page c.args.tallies.now c.count.new.self (omega (arith, c.if-number-len.false, c.len.ensures)) c.in_ok-count.ensures.counted
@@ -37,3 +38,9 @@ returns-clause-each c = λ input r k t same seen there lt.
     let cell : cell_of r ≡ Some (c.in-Some.page, c.in-Some.slot) = sym (c.in-Some.ensures r seen) in
     placed input c.args.lsn c.in-Some.page c.in-Some.slot r c.args.tallies.now c.count.new.self there cell (omega (arith, c.if-number-len.false, c.len.ensures)) c.requires.numbered
     (λ d. c.in_ok-count.ensures.counted d ∙ ap (λ n. set c.args.tallies.now c.in-Some.page (counted n c.args.lsn c.in-Some.slot (get_or c.args.tallies.now c.in-Some.page d))) (sym same)) k t lt
+
+pub returns-clause-counted : goal.returns-clause-counted
+returns-clause-counted c = λ r k t seen lt.
+    let cell : cell_of r ≡ Some (c.in-Some.page, c.in-Some.slot) = sym (c.in-Some.ensures r seen) in
+    counted_each c.args.redo_lsn c.args.lsn c.in-Some.page c.in-Some.slot c.args.tallies.now c.count.new.self (omega (arith, c.if-number-len.false, c.len.ensures)) c.requires.numbered c.in_ok-count.ensures.counted k t lt
+    ∙ ap (λ o. counted_by c.args.redo_lsn c.args.lsn o (get_or c.args.tallies.now k t)) (sym cell)
