@@ -1,5 +1,5 @@
 -- Tallies that have the last record of each slot: before the first record, and with one more.
-use Rattle.std.proofs.Common.{◌≡◌, ℕ, suc, ◌+◌, ◌-◌, ◌<◌, ◌≤◌, true, false, cond, ◌&&◌, not, eqb, leb, ltb, List, Option, None, Some, length, get_or, set, replicate, refl, sym, ap, ◌∙◌, subst, inl, inr, arith, ne_eqb, eq-eqb}
+use Rattle.std.proofs.Common.{◌≡◌, ℕ, suc, ◌+◌, ◌-◌, ◌<◌, ◌≤◌, false, cond, ◌&&◌, not, eqb, leb, ltb, List, Option, None, Some, length, get_or, set, refl, sym, ap, ◌∙◌, subst, inl, inr, arith, ne_eqb, eq-eqb}
 use Rattle.std.proofs.lemmas.Bool.{cases_eq, cases_lt, and_right, lt-leb}
 use Rattle.std.proofs.lemmas.List.{get_or-set_same, get_or-set_other}
 use Rattle.page.specs.declared.page.Page.{Page}
@@ -15,7 +15,6 @@ use Rattle.redo.specs.Inputs.{InputContent, input_over}
 use Rattle.redo.specs.Changes.{RedoPage, redo_page_at, advance, counted, counted_by}
 use Rattle.redo.specs.Redone.{IsLookedAt}
 use Rattle.redo.specs.Parts.{redo_page_in, image_at, resolved}
-use Rattle.redo.specs.OnePass.{AreUpTo}
 use Rattle.redo.specs.Counted.{lasts_in, is_applied, AreCounted}
 use Rattle.redo.specs.Passing.{AreBegunIn, IsRecordFor}
 use Rattle.redo.proofs.Advance.{advanced, advance_had}

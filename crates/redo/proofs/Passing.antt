@@ -2,17 +2,11 @@
 use Rattle.std.proofs.Common.{◌≡◌, ◌≢◌, ℕ, zero, suc, replicate, ◌+◌, ◌-◌, ◌<◌, ◌≤◌, true, ◌&&◌, not, eqb, leb, ltb, eq-eqb, List, [], ◌∷◌, ◌++◌, All, Option, None, Some, length, get_or, set, refl, sym, ap, ◌∙◌, subst, inl, inr, arith, length-append}
 use Rattle.std.proofs.lemmas.Bool.{cases_Bool, cases_eq, cases_lt, cond_both, and_parts, and_from, le-leb, leb-true, lt-ltb}
 use Rattle.std.proofs.lemmas.List.{get_or-set_same, get_or-set_other, length-set, set_past}
-use Rattle.page.specs.declared.page.Page.{Page}
 use Rattle.tables.specs.Tables.{TablesContent}
-use Rattle.log_laws.specs.Records.{LogContent, start, history, base_lsn}
 use Rattle.log_laws.specs.Redo.{rec_lsn_of, is_redone}
-use Rattle.log_laws.proofs.Histories.{first_at_base}
 use Rattle.redo.specs.declared.tally.Tally.{Tally}
-use Rattle.redo.specs.Inputs.{input_over}
 use Rattle.redo.specs.Changes.{counted}
-use Rattle.redo.specs.Parts.{redo_page_in, image_at}
-use Rattle.redo.specs.OnePass.{AreUpTo}
-use Rattle.redo.specs.Passing.{StandAtNumbers, LastsAreWithin, AreRedoneBy, AreScanned, ListEach, AreBegunIn}
+use Rattle.redo.specs.Passing.{StandAtNumbers, LastsAreWithin, AreRedoneBy, AreScanned, ListEach}
 use Rattle.redo.proofs.Advance.{redone_above}
 use Rattle.redo.proofs.OnePass.{each_more}
 use Rattle.page.specs.declared.profile.TheConstants.{SLOTS}

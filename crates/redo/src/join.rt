@@ -10,11 +10,7 @@ use page::Fault;
 
 /// Joins the tallies of all pages with those of a later stretch. The only error is `NoResource`.
 /// Some of the pages are joined then, and the others are not.
-pub fn join_each(
-    tallies: &mut TallyTable,
-    redo_lsn: u64,
-    later: &TallyTable,
-) -> Result<(), Fault>
+pub fn join_each(tallies: &mut TallyTable, redo_lsn: u64, later: &TallyTable) -> Result<(), Fault>
     requires pages { length later.now ≡ length tallies.old }
     requires room { (k : ℕ) (t : Tally) → k < length tallies.old
         → (slice_index_or tallies.old k t).applied

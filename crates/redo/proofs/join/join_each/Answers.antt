@@ -1,4 +1,4 @@
-use Rattle.std.proofs.Common.{◌≡◌, ◌<◌, None, List, length, get_or, set, sym, ap, ◌∙◌, inl, inr, arith}
+use Rattle.std.proofs.Common.{◌<◌, None, List, length, get_or, set, sym, ap, ◌∙◌, inl, inr, arith}
 use Rattle.std.proofs.lemmas.Bool.{cases_eq}
 use Rattle.std.proofs.lemmas.List.{length-set, get_or-set_same, get_or-set_other}
 use Rattle.redo.specs.declared.tally.Tally.{Tally}

@@ -1,4 +1,4 @@
-use Rattle.std.proofs.Common.{◌<◌, get_or, arith}
+use Rattle.std.proofs.Common.{get_or, arith}
 use Rattle.std.proofs.lemmas.List.FromFn.{fill_by_all}
 use Rattle.page.specs.declared.profile.TheConstants.{SLOTS}
 use Rattle.redo.specs.Joined.{last_joined}

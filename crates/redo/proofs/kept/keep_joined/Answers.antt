@@ -1,4 +1,4 @@
-use Rattle.std.proofs.Common.{◌-◌, set, ap, ◌∙◌, arith}
+use Rattle.std.proofs.Common.{◌-◌, set, ap, ◌∙◌}
 use Rattle.redo.proofs.Placed.{joined_set}
 use Rattle.redo.proofs.kept.keep_joined.Goals as goal
 

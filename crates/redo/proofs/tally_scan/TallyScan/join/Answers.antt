@@ -1,7 +1,5 @@
-use Rattle.std.proofs.Common.{◌≡◌, ◌<◌, ◌≤◌, ◌⊎◌, length, get_or, sym, ap, ◌∙◌, subst, arith}
+use Rattle.std.proofs.Common.{◌≡◌, ◌<◌, ◌≤◌, length, get_or, sym, ap, ◌∙◌, subst, arith}
 use Rattle.redo.specs.Passing.{TalliesSoFar, AreScanned}
-use Rattle.redo.specs.Counted.{AreCounted}
-use Rattle.redo.specs.Inputs.{input_over}
 use Rattle.redo.specs.Joined.{joined, JoinsStretches, JoinsPages}
 use Rattle.std.proofs.lemmas.Result.{on_ok_weaker}
 use Rattle.redo.proofs.Joining.{joined_few, scanned_joined, all_joined}

@@ -4,7 +4,7 @@ use Rattle.std.proofs.lemmas.List.{set-get_or}
 use Rattle.log_laws.specs.Redo.{is_redone}
 use Rattle.redo.specs.declared.tally.Tally.{Tally}
 use Rattle.redo.specs.Placed.{ArePlaced, tallies_of, tally_of}
-use Rattle.redo.specs.Joined.{joined, place_joined, kept_joined}
+use Rattle.redo.specs.Joined.{joined, kept_joined}
 use Rattle.redo.proofs.Placed.{in_pages, is_placed, its_tally, its_rec_lsn, its_lasts, joined_placed, joined_tallies, joined_kept}
 use Rattle.redo.proofs.tally_table.TallyTable.join.Goals as goal
 
