@@ -13,7 +13,7 @@ mod NoTables
 pub mod Halves
 pub mod Passing
 pub mod Stretches
-pub mod ToldStretches
+pub mod DescribedStretches
 pub mod Ends
 pub mod Seen
 pub mod BothTables

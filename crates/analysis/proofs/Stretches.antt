@@ -16,7 +16,7 @@ use Rattle.wal.specs.declared.glance.Glance.{Glance}
 use Rattle.wal.specs.declared.glance.Glance.TheVariants as seen
 use Rattle.analysis.specs.Tables.{analysed_entry, entry_at}
 use Rattle.analysis.specs.Steps.{prepared_from, state_in, undo_next_of_entry, entry_after, entry_seen}
-use Rattle.analysis.specs.Stretch.{Stretch, state_joined, with_nothing_to_undo, base_left, entry_joined, entry_behind, AddsRecord, TellsRecord, finish_seen, undoes_last_seen, StretchesGoOn}
+use Rattle.analysis.specs.Stretch.{Stretch, state_joined, with_nothing_to_undo, base_left, entry_joined, entry_behind, AddsRecord, DescribesRecord, finish_seen, undoes_last_seen, StretchesGoOn}
 use Rattle.analysis.proofs.Scanned.{saying, entry_more, entry_next, entry_glanced}
 use Rattle.analysis.proofs.Passing.{entries_go_on}
 
@@ -132,19 +132,19 @@ joined_more lsn t (seen.Prepare tx) own base f u some =
     ap (entry_joined t (entry_seen lsn (seen.Prepare tx) t own)) (left_same f u base) ∙ prepares t tx lsn own (base_left f u base)
 joined_more lsn t seen.Checkpoint own base f u some = ap (entry_joined t own) (left_same f u base)
 
--- the same of what was told
-pub told_more : (lsn t : ℕ) (g : Glance) (old new : Stretch) (base : Option TableEntry) → eqb lsn 0 ≡ false
+-- the same of what was found
+pub found_more : (lsn t : ℕ) (g : Glance) (old new : Stretch) (base : Option TableEntry) → eqb lsn 0 ≡ false
     → entry_at t new.entries ≡ entry_seen lsn g t (entry_at t old.entries)
     → is_among t new.finished ≡ (is_among t old.finished || finish_seen g t)
     → is_among t new.undone ≡ (is_among t old.undone || undoes_last_seen g t)
     → entry_behind t new base ≡ entry_seen lsn g t (entry_behind t old base)
-told_more lsn t g old new base some entries finished undone =
+found_more lsn t g old new base some entries finished undone =
     ap₂ (entry_joined t) entries (ap₂ (λ f u. base_left f u base) finished undone)
     ∙ joined_more lsn t g (entry_at t old.entries) base (is_among t old.finished) (is_among t old.undone) some
 
-pub tells_more : (lsn : ℕ) (g : Glance) (old new : Stretch) → AddsRecord lsn g old new → TellsRecord lsn g old new
-tells_more lsn g old new step log r is at tells t base =
-    entry_next t 0 base _ _ log r lsn (omega arith) at (tells t base) (entry_glanced lsn t r g _ _ is (step t base))
+pub describes_more : (lsn : ℕ) (g : Glance) (old new : Stretch) → AddsRecord lsn g old new → DescribesRecord lsn g old new
+describes_more lsn g old new step log r is at describes t base =
+    entry_next t 0 base _ _ log r lsn (omega arith) at (describes t base) (entry_glanced lsn t r g _ _ is (step t base))
 
 -- BEHIND A LOG
 -- the records of a stretch all come after m
@@ -156,9 +156,9 @@ same_after t m base log (r ∷ records) le same =
     (entry_more t m base log r le ∙ ap (entry_after (suc (last_lsn log)) r t) same ∙ sym (entry_more t 0 base log r (omega arith)))
 
 pub stretches_go_on : StretchesGoOn
-stretches_go_on t m base log records stretch le tells =
+stretches_go_on t m base log records stretch le describes =
     let before = analysed_entry t m base log in
-    entries_go_on t m base log records ∙ same_after t m before (start (last_lsn log)) records le refl ∙ sym (tells t before)
+    entries_go_on t m base log records ∙ same_after t m before (start (last_lsn log)) records le refl ∙ sym (describes t before)
 
 -- LISTS OF TRANSACTIONS
 -- one more

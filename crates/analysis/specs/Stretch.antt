@@ -1,5 +1,5 @@
--- STRETCHES. What the records of the log after one LSN, up to another, do to the transaction table, told without the table before them
--- (own).
+-- STRETCHES. What the records of the log after one LSN, up to another, do to the transaction table, found without the table before
+-- them (own).
 use Rattle.std.specs.Prelude.{◌≡◌, ◌≤◌, ◌+◌, ℕ, Bool, false, ◌||◌, ◌&&◌, ◌==◌, if◌then◌else◌, List, [], ◌∷◌, Option, Some, None}
 use Rattle.log_laws.specs.declared.state.State.{State}
 use Rattle.log_laws.specs.Records.{TableEntry, LogRecord, Compensation, History, start, ◌▸◌, ◌▸▸◌, last_lsn}
@@ -14,7 +14,7 @@ use Rattle.wal.specs.Glances.{glance_of}
 use Rattle.analysis.specs.Tables.{analysed_entry, entry_at, finished_since, is_aborting, work_since}
 use Rattle.analysis.specs.Steps.{entry_seen, state_in, undo_next_of_entry}
 
--- what was told of a stretch: the entries that an empty table has after it, the first of a transaction counts; the transactions with a
+-- what was found of a stretch: the entries that an empty table has after it, the first of a transaction counts; the transactions with a
 -- commit or an end in it; and those with a CLR whose UndoNxtLSN is 0
 pub record Stretch : Type 0 where
   pub entries : List (ℕ × Entry)
@@ -44,18 +44,18 @@ entry_joined t (Some e) base =
 abbrev pub entry_behind : ℕ → Stretch → Option TableEntry → Option TableEntry
 entry_behind t stretch base = entry_joined t (entry_at t stretch.entries) (base_left (is_among t stretch.finished) (is_among t stretch.undone) base)
 
--- WHAT IS TOLD
--- what was told is what these records do: for each transaction, whatever its entry is before them
-abbrev pub Tells : History → Stretch → Type 0
-Tells log stretch = (t : ℕ) (base : Option TableEntry) → entry_behind t stretch base ≡ analysed_entry t 0 base log
+-- WHAT IS FOUND
+-- what was found describes what these records do: for each transaction, whatever its entry is before them
+abbrev pub Describes : History → Stretch → Type 0
+Describes log stretch = (t : ℕ) (base : Option TableEntry) → entry_behind t stretch base ≡ analysed_entry t 0 base log
 
--- the record with this LSN, which is seen so at a glance, is told too, as the last of the stretch
+-- the record with this LSN, which is seen so at a glance, is added as the last of the stretch
 abbrev pub AddsRecord : (lsn : ℕ) → Glance → (old new : Stretch) → Type 0
 AddsRecord lsn glance old new = (t : ℕ) (base : Option TableEntry) → entry_behind t new base ≡ entry_seen lsn glance t (entry_behind t old base)
 
 -- the same of each log that ends before it
-abbrev pub TellsRecord : (lsn : ℕ) → Glance → (old new : Stretch) → Type 0
-TellsRecord lsn glance old new = (log : History) (r : LogRecord) → glance ≡ glance_of r → last_lsn log + 1 ≡ lsn → Tells log old → Tells (log ▸ r) new
+abbrev pub DescribesRecord : (lsn : ℕ) → Glance → (old new : Stretch) → Type 0
+DescribesRecord lsn glance old new = (log : History) (r : LogRecord) → glance ≡ glance_of r → last_lsn log + 1 ≡ lsn → Describes log old → Describes (log ▸ r) new
 
 -- a commit or an end of t
 abbrev pub finish_seen : Glance → ℕ → Bool
@@ -94,13 +94,13 @@ JoinsStretch stretch old new = (t : ℕ) → entry_at t new ≡ entry_behind t s
 -- the same of each log before a stretch of these records, which all come after the LSN m
 abbrev pub ContinuesLog : Stretch → (old new : List (ℕ × Entry)) → Type 0
 ContinuesLog stretch old new = (t m : ℕ) (base : Option TableEntry) (log : History) (records : List LogRecord) → m ≤ last_lsn log
-    → Tells (start (last_lsn log) ▸▸ records) stretch → entry_at t old ≡ analysed_entry t m base log → entry_at t new ≡ analysed_entry t m base (log ▸▸ records)
+    → Describes (start (last_lsn log) ▸▸ records) stretch → entry_at t old ≡ analysed_entry t m base log → entry_at t new ≡ analysed_entry t m base (log ▸▸ records)
 
 -- THE LAWS OF STRETCHES
--- analysis finds in a log what it finds in the log before a stretch, with what was told of the stretch
+-- analysis finds in a log what it finds in the log before a stretch, with what was found of the stretch
 abbrev pub StretchesGoOn : Type 0
 StretchesGoOn = (t m : ℕ) (base : Option TableEntry) (log : History) (records : List LogRecord) (stretch : Stretch) → m ≤ last_lsn log
-    → Tells (start (last_lsn log) ▸▸ records) stretch → analysed_entry t m base (log ▸▸ records) ≡ entry_behind t stretch (analysed_entry t m base log)
+    → Describes (start (last_lsn log) ▸▸ records) stretch → analysed_entry t m base (log ▸▸ records) ≡ entry_behind t stretch (analysed_entry t m base log)
 
 -- whether a CLR whose UndoNxtLSN is 0 is in the work
 abbrev pub undoes_last : List (ℕ × LogRecord) → Bool
@@ -108,7 +108,7 @@ undoes_last [] = false
 undoes_last ((lsn, Compensation c) ∷ work) = (c.undo_next == 0) || undoes_last work
 undoes_last ((lsn, r) ∷ work) = undoes_last work
 
--- what was told has the entries of these records, from an empty table; and the transactions that they finish; and of the others those
+-- what was found has the entries of these records, from an empty table; and the transactions that they finish; and of the others those
 -- with such a CLR in their work
 pub record HasStretch (log : History) (stretch : Stretch) : Type 0 where
   pub entries : (t : ℕ) → entry_at t stretch.entries ≡ analysed_entry t 0 None log
@@ -116,5 +116,5 @@ pub record HasStretch (log : History) (stretch : Stretch) : Type 0 where
   pub undone : (t : ℕ) → finished_since t 0 log ≡ false → is_among t stretch.undone ≡ undoes_last (work_since t 0 log)
 
 -- that is enough
-abbrev pub StretchesAreTold : Type 0
-StretchesAreTold = (log : History) (stretch : Stretch) → HasStretch log stretch → Tells log stretch
+abbrev pub StretchesAreDescribed : Type 0
+StretchesAreDescribed = (log : History) (stretch : Stretch) → HasStretch log stretch → Describes log stretch

@@ -50,7 +50,7 @@ pub use fresh_scan::FreshScan;
 pub use laws::{entries_go_on, no_fault_of_tables, one_base_fault, one_tables, rec_lsns_go_on};
 pub use page_scan::PageScan;
 pub use pass::analyse;
-pub use stretch_laws::{stretches_are_told, stretches_go_on};
+pub use stretch_laws::{stretches_are_described, stretches_go_on};
 pub use stretch_scan::StretchScan;
 pub use table_scan::TableScan;
 pub use tables::Tables;

@@ -3,7 +3,7 @@
 ghost use Rattle.std.specs.Prelude.{◌≡◌, ◌≤◌, ℕ, Option, OnOk, IsOkUnless};
 ghost use Rattle.page.specs.declared.fault.Fault.TheVariants.{NoResource};
 ghost use Rattle.log_laws.specs.Records.{TableEntry, start};
-ghost use Rattle.analysis.specs.Stretch.{entry_behind, Tells, AddsRecord, TellsRecord};
+ghost use Rattle.analysis.specs.Stretch.{entry_behind, Describes, AddsRecord, DescribesRecord};
 ghost use Rattle.analysis.specs.Stretch.{finish_seen, undoes_last_seen, Lists};
 
 use crate::transaction_scan::TransactionScan;
@@ -66,7 +66,7 @@ impl StretchScan {
     /// The scan before the first record of a stretch.
     pub fn begin(alloc: Global) -> StretchScan
         ensures nothing { (t : ℕ) (base : Option TableEntry) → entry_behind t result base ≡ base }
-        ensures tells { (lsn : ℕ) → Tells (start lsn) result }
+        ensures describes { (lsn : ℕ) → Describes (start lsn) result }
     {
         StretchScan {
             scan: TransactionScan::begin(BTreeMap::new(alloc)),
@@ -83,8 +83,8 @@ impl StretchScan {
     pub fn note(&mut self, lsn: u64, glance: Glance) -> Result<(), Fault>
         requires { 1 ≤ lsn }
         ensures entries { OnOk result (AddsRecord lsn glance self.old self.new) }
-        // If the scan told what the records before it do, it now tells what these and it do.
-        ensures tells { OnOk result (TellsRecord lsn glance self.old self.new) }
+        // The same of the records of the stretch up to this one.
+        ensures describes { OnOk result (DescribesRecord lsn glance self.old self.new) }
         ensures err { IsOkUnless result NoResource }
     {
         list_transaction(&mut self.finished, &mut self.undone, glance)?;

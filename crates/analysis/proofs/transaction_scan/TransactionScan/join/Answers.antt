@@ -18,5 +18,5 @@ returns-clause-entries c = λ t.
     ∙ ap (λ s. entry_behind t s first) c.stretch.view_is
 
 pub returns-clause-goes_on : goal.returns-clause-goes_on
-returns-clause-goes_on c = λ t m base log records le tells before.
-    returns-clause-entries c t ∙ ap (entry_behind t c.args.stretch) before ∙ sym (stretches_go_on t m base log records c.args.stretch le tells)
+returns-clause-goes_on c = λ t m base log records le describes before.
+    returns-clause-entries c t ∙ ap (entry_behind t c.args.stretch) before ∙ sym (stretches_go_on t m base log records c.args.stretch le describes)

@@ -1,4 +1,4 @@
--- What has to be told of a stretch of the log.
+-- What has to be known of a stretch of the log.
 use Rattle.std.proofs.Common.{ℕ, suc, ◌≡◌, Bool, true, false, ◌||◌, cond, eqb, ltb, eqb-true, ne_eqb, List, [], ◌∷◌, Option, Some, None, refl, sym, ap, ap₂, ◌∙◌, arith, inl, inr}
 use Rattle.std.specs.Prelude.{⊤}
 use Rattle.std.proofs.Math.Bool.{or_assoc}
@@ -10,12 +10,12 @@ use Rattle.log_laws.specs.Tail.{is_among}
 use Rattle.log_laws.specs.Undo.{is_prepared}
 use Rattle.analysis.specs.Tables.{finishes, work_since, finished_since, undo_next_in, told_in, is_aborting, state_in_work, entry_by, analysed_entry, entry_at}
 use Rattle.analysis.specs.Steps.{state_in, undo_next_of_entry}
-use Rattle.analysis.specs.Stretch.{state_joined, base_left, entry_joined, entry_behind, undoes_last, StretchesAreTold}
+use Rattle.analysis.specs.Stretch.{state_joined, base_left, entry_joined, entry_behind, undoes_last, StretchesAreDescribed}
 use Rattle.analysis.proofs.Scanned.{saying}
 use Rattle.analysis.proofs.Stretches.{nothing_undo_next, left_state}
 
 -- THE STATE
--- told in the work, or of the base
+-- in the work, or of the base
 told_split : (such : LogRecord → Bool) (in_such : State → Bool) (work : List (ℕ × LogRecord)) (base : Option TableEntry)
     → told_in such in_such work base ≡ (told_in such in_such work None || told_in such in_such [] base)
 told_split such in_such [] base = refl
@@ -80,8 +80,8 @@ joined_none : (t : ℕ) (work : List (ℕ × LogRecord)) → entry_joined t (ent
 joined_none t [] = refl
 joined_none t (x ∷ work) = ap₂ (λ s n. saying t s x.0 n) (state_split t (x ∷ work) None) (zero_stays (undo_next_in (x ∷ work) None))
 
-pub stretches_are_told : StretchesAreTold
-stretches_are_told log stretch has t base = by_finished (finished_since t 0 log) refl
+pub stretches_are_described : StretchesAreDescribed
+stretches_are_described log stretch has t base = by_finished (finished_since t 0 log) refl
   where
     by_finished : (f : Bool) → finished_since t 0 log ≡ f → entry_behind t stretch base ≡ analysed_entry t 0 base log
     by_finished true e =
