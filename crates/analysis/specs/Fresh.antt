@@ -6,17 +6,25 @@ use Rattle.wal.specs.declared.glance.Glance.{Glance}
 use Rattle.wal.specs.declared.record.Entry.{Entry}
 use Rattle.wal.specs.Glances.{glance_of}
 use Rattle.wal.specs.Spelling.{Fits}
-use Rattle.log_laws.specs.Records.{LogRecord, LogContent, History, start, ◌▸◌, last_lsn}
+use Rattle.log_laws.specs.Records.{LogRecord, LogContent, History, start, ◌▸◌, history, last_lsn}
 use Rattle.log_laws.specs.Meaning.{BasePages, cell_of}
 use Rattle.log_laws.specs.Store.{Lawful}
 use Rattle.tables.specs.Lawful.{AreTrue}
 use Rattle.tables.specs.Tables.{TablesContent}
 use Rattle.analysis.specs.Tables.{AreTablesOf, analysed_entry, entry_at, with_dirty}
 
--- the LSN of the first record that changes a page, 0 if there is none
+-- the LSN of the first record that changes a page, 0 for none, after one more record
+abbrev pub first_with : (first lsn : ℕ) → LogRecord → ℕ
+first_with first lsn r = if first == 0 then (if is_some (cell_of r) then lsn else 0) else first
+
+-- in a log
 abbrev pub first_change : History → ℕ
 first_change (start _) = 0
-first_change (log ▸ r) = if first_change log == 0 then (if is_some (cell_of r) then suc (last_lsn log) else 0) else first_change log
+first_change (log ▸ r) = first_with (first_change log) (suc (last_lsn log)) r
+
+-- with the record that is seen so at a glance
+abbrev pub IsFirstWith : (first lsn : ℕ) → Glance → (now : ℕ) → Type 0
+IsFirstWith first lsn glance now = (r : LogRecord) → glance ≡ glance_of r → now ≡ first_with first lsn r
 
 -- the entries of the transactions, of which the first one of a transaction counts, and the LSN of the first record that changes a page
 pub record FreshTables : Type 0 where
@@ -31,6 +39,10 @@ pub record HasFound (log : History) (scan : FreshTables) : Type 0 where
 -- it looks at the record after this LSN, which is seen so at a glance, and has found that in each log which ends there
 abbrev pub FindsRecord : (lsn : ℕ) → Glance → (old new : FreshTables) → Type 0
 FindsRecord lsn glance old new = (log : History) (r : LogRecord) → glance ≡ glance_of r → Fits r → last_lsn log ≡ lsn → HasFound log old → HasFound (log ▸ r) new
+
+-- P is true of each log in which it has found this
+abbrev pub ForFound : FreshTables → (LogContent → Type 0) → Type 0
+ForFound scan P = (log : LogContent) → HasFound (history log) scan → P log
 
 -- with these dirty pages they are the tables of this log, and true if the log is lawful
 pub record AreFreshTables (log : LogContent) (tables : TablesContent) : Type 0 where

@@ -9,6 +9,7 @@ use Rattle.log_laws.specs.Records.{TableEntry, LogRecord, History, start, ◌▸
 use Rattle.log_laws.specs.Checkpoint.{first_end, is_begin}
 use Rattle.log_laws.specs.Redo.{rec_lsn_of}
 use Rattle.log_laws.specs.Undo.{entry_for}
+use Rattle.tables.specs.Tables.{TablesContent}
 use Rattle.analysis.specs.Tables.{analysed_entry, analysed_rec_lsn, base_of, entry_at, IsBase}
 
 -- THE LAWS OF CONTINUED READING. What analysis finds in a log with more records after it is what it finds in these records only, if it
@@ -40,6 +41,14 @@ pub record CheckpointSoFar : Type 0 where
 -- the transaction table that was found, if there is one, has no transaction 0
 abbrev pub FoundNoTransaction0 : Option (List (ℕ × Entry)) → Type 0
 FoundNoTransaction0 found = IfSome found (λ entries. entry_at 0 entries ≡ None)
+
+-- none of these entries is of transaction 0, which no record has
+abbrev pub HasNone0 : (entries : List (ℕ × Entry)) → Type 0
+HasNone0 entries = entry_at 0 entries ≡ None
+
+-- nor is any in the tables
+abbrev pub AreWithout0 : TablesContent → Type 0
+AreWithout0 tables = entry_for 0 tables.transactions ≡ None
 
 -- what the scan for the master m has found in the log that was read: the base, which has no transaction 0; or no base, and then it knows
 -- whether a begin record is at m

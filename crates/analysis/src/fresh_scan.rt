@@ -1,14 +1,12 @@
 //! Analysis without a checkpoint, while a log is read, record after record.
 
-ghost use Rattle.std.specs.Prelude.{◌≡◌, ◌<◌, ◌≤◌, ◌+◌, ◌^◌, ℕ, None, IfOk, OnOk, IsOkUnless, is_some, ◌==◌, if◌then◌else◌};
+ghost use Rattle.std.specs.Prelude.{◌≡◌, ◌<◌, ◌+◌, ◌^◌, ℕ, IfOk, OnOk, IsOkUnless};
 ghost use Rattle.page.specs.declared.fault.Fault.TheVariants.{NoResource};
 ghost use Rattle.wal.specs.Glances.{glance_of};
 ghost use Rattle.wal.specs.Spelling.{Fits};
-ghost use Rattle.log_laws.specs.Meaning.{cell_of};
-ghost use Rattle.log_laws.specs.Records.{LogRecord, LogContent, start, history, base_lsn};
-ghost use Rattle.log_laws.specs.Undo.{entry_for};
-ghost use Rattle.analysis.specs.Tables.{entry_at};
-ghost use Rattle.analysis.specs.Fresh.{HasFound, FindsRecord, AreFreshTables};
+ghost use Rattle.log_laws.specs.Records.{LogRecord, start};
+ghost use Rattle.analysis.specs.Fresh.{HasFound, FindsRecord, IsFirstWith, ForFound, AreFreshTables};
+ghost use Rattle.analysis.specs.Passing.{HasNone0, AreWithout0};
 
 use crate::Tables;
 use crate::transaction_scan::TransactionScan;
@@ -40,8 +38,7 @@ impl Model for FreshScan {
 /// there is none. The record is given at a glance.
 #[inline(always)]
 fn first_change_after(first: u64, glance: Glance, lsn: u64) -> u64
-    ensures { (r : LogRecord) → glance ≡ glance_of r → result
-        ≡ (if first == 0 then (if is_some (cell_of r) then lsn else 0) else first) }
+    ensures { IsFirstWith first lsn glance result }
 {
     if first != 0 {
         return first;
@@ -53,7 +50,7 @@ impl FreshScan {
     /// The scan before the first record of a log.
     pub fn begin(alloc: Global) -> FreshScan
         ensures begun { (base : ℕ) → HasFound (start base) result }
-        ensures no_transaction_0 { entry_at 0 result.entries ≡ None }
+        ensures no_transaction_0 { HasNone0 result.entries }
     {
         FreshScan {
             transactions: TransactionScan::begin(BTreeMap::new(alloc)),
@@ -69,8 +66,8 @@ impl FreshScan {
         requires seen { (r : LogRecord) × (glance ≡ glance_of r) × Fits r }
         requires room { lsn + 1 < 2 ^ 64 }
         ensures goes_on { OnOk result (FindsRecord lsn glance self.old self.new) }
-        ensures no_transaction_0 { OnOk result (entry_at 0 self.old.entries ≡ None
-            → entry_at 0 self.new.entries ≡ None) }
+        ensures no_transaction_0 { OnOk result (HasNone0 self.old.entries
+            → HasNone0 self.new.entries) }
         ensures err { IsOkUnless result NoResource }
     {
         self.transactions.note(glance, lsn + 1)?;
@@ -81,10 +78,9 @@ impl FreshScan {
     /// The tables of the crash, after the last record, without the dirty pages: none is listed. The
     /// only error is `NoResource`, if memory was refused.
     pub fn finish(self, alloc: Global) -> Result<Tables, Fault>
-        ensures tables { IfOk result (λ tables. (log : LogContent) → HasFound (history log) self
-            → AreFreshTables log tables) }
-        ensures no_transaction_0 { entry_at 0 self.entries ≡ None
-            → IfOk result (λ tables. entry_for 0 tables.transactions ≡ None) }
+        ensures tables { IfOk result (λ tables. ForFound self
+            (λ log. AreFreshTables log tables)) }
+        ensures no_transaction_0 { HasNone0 self.entries → IfOk result AreWithout0 }
         ensures err { IsOkUnless result NoResource }
     {
         let FreshScan {

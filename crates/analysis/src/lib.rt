@@ -3,7 +3,7 @@
 //!
 //! Entry points: [`analyse`] takes a whole log. If a log is read record after record,
 //! [`CheckpointScan`] finds the tables of the checkpoint, and from these on [`TableScan`] those of
-//! the crash. Without a checkpoint [`FreshScan`] finds them, but for the dirty pages. If several
+//! the crash. Without a checkpoint [`FreshScan`] finds them, without the dirty pages. If several
 //! threads look at one stretch of the log each, [`StretchScan`] finds what it does to the transaction
 //! table, and [`TransactionScan`] joins it.
 //!

@@ -12,6 +12,7 @@ use Rattle.undo.specs.declared.appended.Appended.{Appended}
 use Rattle.undo.specs.Appended.{appended_records}
 use Rattle.tables.specs.Lawful.{AreTrue}
 use Rattle.tables.specs.Tables.{TablesContent}
+use Rattle.analysis.specs.Passing.{AreWithout0}
 use Rattle.analysis.specs.Tables.{with_dirty}
 use Rattle.restart.specs.Outcome.{OutcomeContent, outcome_with}
 use Rattle.restart.specs.Restart.{InputFault, IsRedone, Restarts, Restores, store_with}
@@ -19,7 +20,6 @@ use Rattle.passes.specs.declared.in_pieces.Forward.{Forward}
 use Rattle.passes.specs.declared.in_pieces.Restarted.{Restarted}
 use Rattle.passes.specs.Calls.{ForText, ForLog}
 use Rattle.passes.specs.Marks.{IsResource}
-use Rattle.passes.specs.Tables.{AreWithout0}
 use Rattle.passes.specs.declared.fault.PassFault.{PassFault}
 use Rattle.passes.specs.declared.fault.PassFault.TheVariants as fault
 

@@ -8,7 +8,7 @@ use Rattle.wal.specs.declared.glance.Glance.{Glance}
 use Rattle.wal.specs.Glances.{IsGlanceBehind}
 use Rattle.tables.specs.Pieces.{IsPieceOf}
 use Rattle.tables.specs.Tables.{TablesContent}
-use Rattle.analysis.specs.Fresh.{FreshTables, HasFound}
+use Rattle.analysis.specs.Fresh.{FreshTables, HasFound, AreFreshTables}
 use Rattle.redo.specs.Passing.{TalliesSoFar, ListEach}
 use Rattle.redo.specs.Redone.{RedoFault}
 use Rattle.passes.specs.declared.fresh.ForwardReading.{ForwardReading}
@@ -50,9 +50,9 @@ abbrev pub ScansOn : (old new : ForwardScan) → (whole before after : LogConten
 ScansOn old new whole before after = FindsOn old.tables new.tables before after
     × ((images : List Page) → IsTalliedTo whole images (last_lsn (history before)) old → IsTalliedTo whole images (last_lsn (history after)) new)
 
--- P is true of each log in which it has found this
-abbrev pub ForFound : FreshTables → (LogContent → Type 0) → Type 0
-ForFound scan P = (log : LogContent) → HasFound (history log) scan → P log
+-- the result of the reading has the tables of the log
+abbrev pub HasFreshTables : (held : Option (List ℕ)) → ForwardReading → Type 0
+HasFreshTables held x = ForLog held (λ whole. AreFreshTables whole x.tables)
 
 -- WHAT PAGES SHOW, in memory or not
 module _ {P : Type 0} (pages : Pages P) where

@@ -5,11 +5,10 @@ use Rattle.wal.specs.declared.record.Entry.{Entry}
 use Rattle.log_laws.specs.Meaning.{BasePages}
 use Rattle.log_laws.specs.Records.{LogContent, History, history, record_at}
 use Rattle.log_laws.specs.Store.{Lawful}
-use Rattle.log_laws.specs.Undo.{entry_for}
 use Rattle.tables.specs.Lawful.{AreTrue}
 use Rattle.tables.specs.Tables.{TablesContent}
 use Rattle.analysis.specs.Passing.{CheckpointSoFar, HasSeen, SeenTables, HasAnalysed}
-use Rattle.analysis.specs.Tables.{AreTablesOf, BaseFault, IsBase, entry_at}
+use Rattle.analysis.specs.Tables.{AreTablesOf, BaseFault, IsBase}
 use Rattle.pieces.specs.declared.mark.Mark.{Mark}
 use Rattle.passes.specs.declared.fault.PassFault.{PassFault}
 use Rattle.passes.specs.declared.fault.PassFault.TheVariants as fault
@@ -24,10 +23,6 @@ SeesOn old new before after = (m : ℕ) → HasSeen m (history before) old → H
 abbrev pub NotesOn : (master : ℕ) → (old new : SeenTables) → (before after : LogContent) → Type 0
 NotesOn master old new before after = (whole : History) → HasAnalysed master whole (history before) old → HasAnalysed master whole (history after) new
 
--- these are the entries of a scan, and none is of transaction 0, which no record has
-abbrev pub HasNone0 : (entries : List (ℕ × Entry)) → Type 0
-HasNone0 entries = entry_at 0 entries ≡ None
-
 -- THE CHECKPOINT that the master names is not before a mark: these are its tables
 abbrev pub AreBaseTables : (held : Option (List ℕ)) → Mark → (end master : ℕ) → List (ℕ × Entry) → List (ℕ × ℕ) → Type 0
 AreBaseTables held from end master transactions dirty = ToEnd held from end (λ before whole. record_at (history before) master ≡ None → IsBase master (history whole) transactions dirty)
@@ -35,10 +30,6 @@ AreBaseTables held from end master transactions dirty = ToEnd held from end (λ 
 -- TABLES that are true of a lawful log and its store with this master, over any base pages
 abbrev pub AreTrueIfLawful : (master : ℕ) → TablesContent → (whole : LogContent) → Type 0
 AreTrueIfLawful master tables whole = (over : BasePages) (store : StoreContent) → Lawful over whole store → store.master ≡ master → AreTrue whole store tables
-
--- they have no transaction 0
-abbrev pub AreWithout0 : TablesContent → Type 0
-AreWithout0 tables = entry_for 0 tables.transactions ≡ None
 
 -- in a log with these marks
 abbrev pub AreTablesIn : (held : Option (List ℕ)) → List Mark → (master : ℕ) → TablesContent → Type 0

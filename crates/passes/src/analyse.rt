@@ -5,7 +5,8 @@ ghost use Rattle.page.specs.declared.fault.Fault.TheVariants.{NoResource};
 ghost use Rattle.wal.specs.declared.sizes.TheConstants.{LARGEST_BASE};
 ghost use Rattle.analysis.specs.Tables.{entry_at};
 ghost use Rattle.passes.specs.Marks.{IsLow};
-ghost use Rattle.passes.specs.Tables.{SeesOn, NotesOn, HasNone0, AreBaseTables, AreTablesIn, AreTrueIn, TablesCauseIn, BaseCause, AreWithout0};
+ghost use Rattle.analysis.specs.Passing.{HasNone0, AreWithout0};
+ghost use Rattle.passes.specs.Tables.{SeesOn, NotesOn, AreBaseTables, AreTablesIn, AreTrueIn, TablesCauseIn, BaseCause};
 ghost use Rattle.passes.specs.Calls.{IsRoom, HasRead};
 
 use crate::forward::pass_to_end;

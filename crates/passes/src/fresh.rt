@@ -5,11 +5,11 @@ ghost use Rattle.std.specs.Prelude.{◌≡◌, ◌+◌, ◌≤◌, ◌<◌, ◌^
 ghost use Rattle.device.specs.Reread.{IsReadThrough};
 ghost use Rattle.page.specs.declared.fault.Fault.TheVariants.{NoResource};
 ghost use Rattle.wal.specs.declared.sizes.TheConstants.{LARGEST_BASE};
-ghost use Rattle.analysis.specs.Fresh.{AreFreshTables};
+ghost use Rattle.analysis.specs.Fresh.{AreFreshTables, ForFound};
+ghost use Rattle.analysis.specs.Passing.{HasNone0, AreWithout0};
 ghost use Rattle.redo.specs.Routes.{IsSeen};
-ghost use Rattle.passes.specs.Listing.{TalliesNext, HasBegun, ScansOn, ForFound, BeginsTallies, AreTalliedIn, AreRefused};
+ghost use Rattle.passes.specs.Listing.{TalliesNext, HasBegun, ScansOn, HasFreshTables, BeginsTallies, AreTalliedIn, AreRefused};
 ghost use Rattle.passes.specs.Calls.{IsRoom, HasRead, ForLog, FindsMarks, TextCause};
-ghost use Rattle.passes.specs.Tables.{HasNone0, AreWithout0};
 
 use crate::find::{mark_at_start, read_from_first};
 use crate::pass::Pass;
@@ -173,8 +173,7 @@ pub fn read_forward<S: Reread, P: Pages>(
     requires room { IsRoom (length room.old) }
     ensures found { IfOk result (λ x. FindsMarks (S.text source.old) (length room.old)
         x.marks x.torn) }
-    ensures tables { IfOk result (λ x. ForLog (S.text source.old)
-        (λ log. AreFreshTables log x.tables)) }
+    ensures tables { IfOk result (HasFreshTables (S.text source.old)) }
     ensures no_transaction_0 { IfOk result (λ x. AreWithout0 x.tables) }
     ensures tallied { IfOk result (AreTalliedIn P.Pages (S.text source.old) pages.now) }
     ensures count { IfOk result (λ x. IfOk x.tallies (λ all. length all.tallies

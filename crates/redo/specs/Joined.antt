@@ -1,5 +1,5 @@
 -- JOINED. The tallies of one stretch of the log and those of a later one, as the tallies of both (own).
-use Rattle.std.specs.Prelude.{◌≡◌, ◌⊎◌, ℕ, zero, suc, ◌+◌, ◌<◌, ◌≤◌, List, [], ◌∷◌, ◌++◌, false, not, ◌&&◌, ◌==◌, if◌then◌else◌, length, map, replicate, slice_index_or, slice_set}
+use Rattle.std.specs.Prelude.{◌≡◌, ◌⊎◌, ℕ, zero, suc, ◌+◌, ◌^◌, ◌<◌, ◌≤◌, List, [], ◌∷◌, ◌++◌, false, not, ◌&&◌, ◌==◌, if◌then◌else◌, length, map, replicate, slice_index_or, slice_set}
 use Rattle.std.specs.List.{range_with_len}
 use Rattle.page.specs.declared.page.Page.{Page}
 use Rattle.page.specs.Store.{AreNumbered}
@@ -11,7 +11,7 @@ use Rattle.redo.specs.declared.tally.Tally.{Tally}
 use Rattle.redo.specs.Inputs.{input_over}
 use Rattle.redo.specs.Parts.{image_at}
 use Rattle.redo.specs.Counted.{is_applied, AreCounted}
-use Rattle.redo.specs.Passing.{TalliesSoFar}
+use Rattle.redo.specs.Passing.{TalliesSoFar, ListEach}
 
 -- the last record of a slot, 0 for none: that of the later stretch, and if it has none that of the earlier one
 abbrev pub last_joined : (earlier later : ℕ) → ℕ
@@ -45,6 +45,16 @@ pub record Continue (images : List Page) (lsn : ℕ) (tables later : TablesConte
       → is_applied later.dirty later.redo_lsn (image_at images page) n ≡ is_applied tables.dirty tables.redo_lsn (image_at images page) n
   pub up_to : (page n : ℕ) → page < length images → n ≤ lsn → is_applied later.dirty later.redo_lsn (image_at images page) n ≡ false
 
+-- tables that list each page from one LSN on, and those that list each from a later one on: a law
+abbrev pub ListedContinue : Type 0
+ListedContinue = (images : List Page) (begins from : ℕ) (tables later : TablesContent) → AreNumbered images → 0 < begins → begins ≤ from + 1
+    → ListEach (length images) begins tables → ListEach (length images) (from + 1) later → Continue images from tables later
+
+-- the same dirty pages, looked at from one LSN on, and only from a later one on: a law
+abbrev pub DirtyContinue : Type 0
+DirtyContinue = (images : List Page) (from : ℕ) (tables later : TablesContent) → AreNumbered images → later.dirty ≡ tables.dirty → 0 < tables.redo_lsn
+    → tables.redo_lsn ≤ from + 1 → later.redo_lsn ≡ from + 1 → Continue images from tables later
+
 -- A SCAN IS JOINED WITH A LATER ONE, for each log and store: if it is counted up to an LSN, and the later one from there up to another, then
 -- it is now counted up to that
 abbrev pub JoinsStretches : (old later new : TalliesSoFar) → Type 0
@@ -53,7 +63,24 @@ JoinsStretches old later new = (log : LogContent) (images : List Page) (tables o
     → AreCounted (input_over log images tables) from old.tallies → AreCounted (input_over log images others) to later.tallies
     → AreCounted (input_over log images tables) to new.tallies
 
--- page by page: each tally is as it was, or joined with the later one
+-- PAGE BY PAGE
+-- the records of both are so few that their count fits
+abbrev pub HaveRoom : (page : ℕ) → (old later : List Tally) → Type 0
+HaveRoom page old later = (t : Tally) → (slice_index_or old page t).applied + (slice_index_or later page t).applied < 2 ^ 64
+
+-- the tally of one page is joined with the later one, and the others stay
+abbrev pub JoinsPage : (page redo_lsn : ℕ) → (old later new : List Tally) → Type 0
+JoinsPage page redo_lsn old later new = (t : Tally) → new ≡ slice_set old page (joined redo_lsn (slice_index_or old page t) (slice_index_or later page t))
+
+-- each tally is joined with the later one
+abbrev pub JoinsEach : (redo_lsn : ℕ) → (old later new : List Tally) → Type 0
+JoinsEach redo_lsn old later new = (page : ℕ) (t : Tally) → page < length old → slice_index_or new page t ≡ joined redo_lsn (slice_index_or old page t) (slice_index_or later page t)
+
+-- or it is as it was
+abbrev pub JoinsSome : (redo_lsn : ℕ) → (old later new : List Tally) → Type 0
+JoinsSome redo_lsn old later new = (page : ℕ) (t : Tally) → page < length old
+    → (slice_index_or new page t ≡ slice_index_or old page t) ⊎ (slice_index_or new page t ≡ joined redo_lsn (slice_index_or old page t) (slice_index_or later page t))
+
+-- the same for a scan
 abbrev pub JoinsPages : (old later new : TalliesSoFar) → Type 0
-JoinsPages old later new = (page : ℕ) (t : Tally) → page < length old.tallies
-    → (slice_index_or new.tallies page t ≡ slice_index_or old.tallies page t) ⊎ (slice_index_or new.tallies page t ≡ joined old.redo_lsn (slice_index_or old.tallies page t) (slice_index_or later.tallies page t))
+JoinsPages old later new = JoinsSome old.redo_lsn old.tallies later.tallies new.tallies

@@ -6,6 +6,7 @@ use Rattle.page.specs.declared.page.Page.{Page}
 use Rattle.page.specs.Store.{AreNumbered}
 use Rattle.page.specs.declared.profile.TheConstants.{SLOTS}
 use Rattle.log_laws.specs.Records.{LogRecord, LogContent, history, record_at, base_lsn, start}
+use Rattle.changes.specs.declared.pages.Pages.{Ghosts as Pages}
 use Rattle.wal.specs.declared.glance.Glance.{Glance}
 use Rattle.wal.specs.Glances.{glance_of}
 use Rattle.log_laws.specs.Redo.{rec_lsn_of, is_redone}
@@ -45,6 +46,10 @@ pub record AreScanned (redo_lsn base upto : ℕ) (tallies : List Tally) : Type 0
   pub few : All (λ (t : Tally). t.applied ≤ upto - base) tallies
   pub lasts : LastsAreWithin upto tallies
   pub later : (lsn : ℕ) → upto < lsn → AreRedoneBy redo_lsn lsn tallies
+
+-- before the first record that holds from any LSNs on
+abbrev pub AreScannedAtFirst : List Tally → Type 0
+AreScannedAtFirst tallies = (redo_lsn base : ℕ) → AreScanned redo_lsn base base tallies
 
 -- the tables list each page below the count from this LSN on, and redo begins there
 pub record ListEach (count first : ℕ) (tables : TablesContent) : Type 0 where
@@ -86,3 +91,24 @@ FindsPage lsn glance scan = (r : LogRecord) → glance ≡ glance_of r → IsLoo
 -- redo looks at it, and it has this error
 abbrev pub TakeFault : (lsn : ℕ) → Glance → TalliesSoFar → Fault → Type 0
 TakeFault lsn glance scan e = IsLookedAt scan.redo_lsn (lsn + 1) × ((r : LogRecord) → glance ≡ glance_of r → NoteFault (length scan.tallies) (lsn + 1) r e)
+
+-- A SCAN BEGINS with the tallies of the pages that are shown
+module _ {P : Type 0} (pages : Pages P) where
+  -- by these tables, before the first record of each log with this base LSN
+  abbrev pub BeginsBy : P → TablesContent → (base : ℕ) → List Tally → Type 0
+  BeginsBy p tables base tallies = (stored shown : List Page) → pages.shows p stored shown → AreNumbered shown → (log : LogContent) → base_lsn (history log) ≡ base
+      → AreCounted (input_over log shown tables) base tallies
+
+  -- and after this LSN of a log that begins earlier, if redo begins after it
+  abbrev pub ContinuesBy : P → TablesContent → (base : ℕ) → List Tally → Type 0
+  ContinuesBy p tables base tallies = (stored shown : List Page) → pages.shows p stored shown → AreNumbered shown → base < tables.redo_lsn → (log : LogContent) → base_lsn (history log) ≤ base
+      → AreCounted (input_over log shown tables) base tallies
+
+  -- the same by all tables that list each page from this LSN on
+  abbrev pub BeginsListed : P → (first base : ℕ) → List Tally → Type 0
+  BeginsListed p first base tallies = (stored shown : List Page) → pages.shows p stored shown → AreNumbered shown → (log : LogContent) (tables : TablesContent) → base_lsn (history log) ≡ base
+      → ListEach (pages.count p) first tables → AreCounted (input_over log shown tables) base tallies
+
+  abbrev pub ContinuesListed : P → (first base : ℕ) → List Tally → Type 0
+  ContinuesListed p first base tallies = (stored shown : List Page) → pages.shows p stored shown → AreNumbered shown → base < first → (log : LogContent) (tables : TablesContent) → base_lsn (history log) ≤ base
+      → ListEach (pages.count p) first tables → AreCounted (input_over log shown tables) base tallies

@@ -1,9 +1,8 @@
 //! The tallies of two stretches of a log, joined in the order of the log.
 
-ghost use Rattle.std.specs.Prelude.{◌≡◌, ◌⊎◌, ℕ, ◌+◌, ◌<◌, ◌^◌, length, slice_index_or, OnOk, IsOkUnless};
+ghost use Rattle.std.specs.Prelude.{◌≡◌, ℕ, ◌<◌, length, OnOk, IsOkUnless};
 ghost use Rattle.page.specs.declared.fault.Fault.TheVariants.{NoResource};
-ghost use Rattle.redo.specs.declared.tally.Tally.{Tally};
-ghost use Rattle.redo.specs.Joined.{joined};
+ghost use Rattle.redo.specs.Joined.{HaveRoom, JoinsEach, JoinsSome};
 
 use crate::tally_table::TallyTable;
 use page::Fault;
@@ -12,17 +11,10 @@ use page::Fault;
 /// Some of the pages are joined then, and the others are not.
 pub fn join_each(tallies: &mut TallyTable, redo_lsn: u64, later: &TallyTable) -> Result<(), Fault>
     requires pages { length later.now ≡ length tallies.old }
-    requires room { (k : ℕ) (t : Tally) → k < length tallies.old
-        → (slice_index_or tallies.old k t).applied
-        + (slice_index_or later.now k t).applied < 2 ^ 64 }
+    requires room { (k : ℕ) → k < length tallies.old → HaveRoom k tallies.old later.now }
     ensures count { length tallies.new ≡ length tallies.old }
-    ensures joined { OnOk result ((k : ℕ) (t : Tally) → k < length tallies.old
-        → slice_index_or tallies.new k t ≡ joined redo_lsn
-        (slice_index_or tallies.old k t) (slice_index_or later.now k t)) }
-    ensures each { (k : ℕ) (t : Tally) → k < length tallies.old
-        → (slice_index_or tallies.new k t ≡ slice_index_or tallies.old k t)
-        ⊎ (slice_index_or tallies.new k t ≡ joined redo_lsn
-        (slice_index_or tallies.old k t) (slice_index_or later.now k t)) }
+    ensures joined { OnOk result (JoinsEach redo_lsn tallies.old later.now tallies.new) }
+    ensures each { JoinsSome redo_lsn tallies.old later.now tallies.new }
     ensures err { IsOkUnless result NoResource }
 {
     for number in 0..tallies.len() {

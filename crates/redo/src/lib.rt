@@ -26,7 +26,7 @@
 //!   in pieces of the log (`Passing`, `Placed`, `Wanted`).
 //! - `join`: the tallies of one stretch of the log joined with those of a later one (`Counted`,
 //!   `Joined`).
-//! - `laws`: redo has at most one fault.
+//! - `laws`: redo has at most one fault; tables that continue others after an LSN.
 #![tactic(auto)]
 
 mod crew;
@@ -56,7 +56,7 @@ mod watch;
 
 pub use fetch::fetch_from;
 pub use gate::{Gate, OpenGate};
-pub use laws::{no_fault_of_redo, one_redo_fault};
+pub use laws::{dirty_continue, listed_continue, no_fault_of_redo, one_redo_fault};
 pub use parting::{PARTS, Parting};
 pub use redone::Redone;
 pub use rounds::{WORKERS, are_workers, redo, redo_in_place};

@@ -13,7 +13,8 @@ ghost use Rattle.redo.specs.Inputs.{InputContent, input_over};
 ghost use Rattle.redo.specs.Counted.{AreCounted};
 ghost use Rattle.redo.specs.Joined.{JoinsStretches, JoinsPages};
 ghost use Rattle.redo.specs.Routes.{IsSeen, NoteFault};
-ghost use Rattle.redo.specs.Passing.{ListEach, IsRecordFor, CountsRecord, FindsPage, TakeFault};
+ghost use Rattle.redo.specs.Passing.{IsRecordFor, CountsRecord, FindsPage, TakeFault};
+ghost use Rattle.redo.specs.Passing.{BeginsBy, ContinuesBy, BeginsListed, ContinuesListed};
 ghost use Rattle.redo.specs.Wanted.{IsWanted, HoldAllBut, ShowAllBut, ShowFinished};
 ghost use Rattle.redo.specs.declared.wanted.Wanted.{Wanted};
 ghost use Rattle.redo.specs.Changes.{NamesBelow};
@@ -63,15 +64,11 @@ impl TallyScan {
         tables: &Tables,
         base: u64,
     ) -> Result<TallyScan, Fault>
-        ensures begun { IfOk result (λ scan. (stored shown : List Page)
-            → P.shows pages.now stored shown → AreNumbered shown
-            → (log : LogContent) → base_lsn (history log) ≡ base
-            → AreCounted (input_over log shown tables.now) base scan.tallies) }
+        ensures begun { IfOk result (λ scan. BeginsBy P.Pages pages.now
+            tables.now base scan.tallies) }
         // The same for a log that begins earlier, if redo begins after the base LSN.
-        ensures ahead { IfOk result (λ scan. (stored shown : List Page)
-            → P.shows pages.now stored shown → AreNumbered shown → base < tables.now.redo_lsn
-            → (log : LogContent) → base_lsn (history log) ≤ base
-            → AreCounted (input_over log shown tables.now) base scan.tallies) }
+        ensures ahead { IfOk result (λ scan. ContinuesBy P.Pages pages.now
+            tables.now base scan.tallies) }
         ensures count { IfOk result (λ scan. length scan.tallies ≡ P.count pages.now) }
         ensures redo_lsn { IfOk result (λ scan. scan.redo_lsn ≡ tables.now.redo_lsn) }
         ensures base { IfOk result (λ scan. scan.base ≡ base) }
@@ -97,17 +94,11 @@ impl TallyScan {
         first: u64,
         base: u64,
     ) -> Result<TallyScan, Fault>
-        ensures begun { IfOk result (λ scan. (stored shown : List Page)
-            → P.shows pages.now stored shown → AreNumbered shown
-            → (log : LogContent) (tables : TablesContent)
-            → base_lsn (history log) ≡ base → ListEach (P.count pages.now) first tables
-            → AreCounted (input_over log shown tables) base scan.tallies) }
+        ensures begun { IfOk result (λ scan. BeginsListed P.Pages pages.now
+            first base scan.tallies) }
         // The same for a log that begins earlier, if `first` is after the base LSN.
-        ensures ahead { IfOk result (λ scan. (stored shown : List Page)
-            → P.shows pages.now stored shown → AreNumbered shown → base < first
-            → (log : LogContent) (tables : TablesContent)
-            → base_lsn (history log) ≤ base → ListEach (P.count pages.now) first tables
-            → AreCounted (input_over log shown tables) base scan.tallies) }
+        ensures ahead { IfOk result (λ scan. ContinuesListed P.Pages pages.now
+            first base scan.tallies) }
         ensures count { IfOk result (λ scan. length scan.tallies ≡ P.count pages.now) }
         ensures redo_lsn { IfOk result (λ scan. scan.redo_lsn ≡ first) }
         ensures base { IfOk result (λ scan. scan.base ≡ base) }
@@ -201,6 +192,13 @@ impl TallyScan {
         let joined = join_each(&mut self.tallies, self.redo_lsn, &later.tallies);
         self.upto = upto;
         joined
+    }
+
+    /// An LSN up to which no record was counted.
+    pub fn base(&self) -> u64
+        ensures { result ≡ self.now.base }
+    {
+        self.base
     }
 
     /// An LSN above which no record was counted.

@@ -14,9 +14,9 @@ ghost use Rattle.redo.specs.Inputs.{InputContent};
 ghost use Rattle.redo.specs.Changes.{NamesBelow, advance, counted, counted_by};
 ghost use Rattle.redo.specs.Routes.{NoteFault, IsSeen};
 ghost use Rattle.redo.specs.Parts.{resolved};
-ghost use Rattle.redo.specs.Passing.{StandAtNumbers, LastsAreWithin, AreRedoneBy, AreScanned, IsBegunIn, AreBegunIn, ListEach};
+ghost use Rattle.redo.specs.Passing.{StandAtNumbers, LastsAreWithin, AreRedoneBy, AreScannedAtFirst, IsBegunIn, AreBegunIn, ListEach};
 ghost use Rattle.redo.specs.Placed.{untouched, tallies_of, ArePlaced, page_first, kept_first};
-ghost use Rattle.redo.specs.Joined.{joined};
+ghost use Rattle.redo.specs.Joined.{HaveRoom, JoinsPage};
 ghost use Rattle.redo.specs.Wanted.{IsLastIn};
 ghost use Rattle.redo.specs.declared.tally.Tally.{Tally};
 ghost use Rattle.redo.specs.declared.tally_table.PlacedPage.{PlacedPage};
@@ -221,11 +221,8 @@ impl TallyTable {
     pub fn join(&mut self, number: usize, redo_lsn: u64, later: &TallyTable) -> Result<(), Fault>
         requires page { number < length self.old }
         requires later { number < length later.now }
-        requires room { (t : Tally) → (slice_index_or self.old number t).applied
-            + (slice_index_or later.now number t).applied < 2 ^ 64 }
-        ensures joined { OnOk result ((t : Tally) → self.new ≡ slice_set self.old number
-            (joined redo_lsn (slice_index_or self.old number t)
-            (slice_index_or later.now number t))) }
+        requires room { HaveRoom number self.old later.now }
+        ensures joined { OnOk result (JoinsPage number redo_lsn self.old later.now self.new) }
         ensures same { OnErr result (self.new ≡ self.old) }
         ensures err { IsOkUnless result NoResource }
     {
@@ -273,8 +270,7 @@ pub fn begin_each<P: Pages>(alloc: Global, pages: &P, tables: &Tables) -> Result
         → AreBegunIn shown tables.now tallies) }
     ensures count { IfOk result (λ tallies. length tallies ≡ P.count pages.now) }
     // Numbers, counts and last records do not depend on what the pages hold.
-    ensures scanned { IfOk result (λ tallies. (redo_lsn base : ℕ)
-        → AreScanned redo_lsn base base tallies) }
+    ensures scanned { IfOk result AreScannedAtFirst }
     ensures err { IsOkUnless result NoResource }
 {
     let count = page_count(pages)?;
@@ -297,8 +293,7 @@ pub fn begin_each_listed<P: Pages>(
         → ListEach (P.count pages.now) first tables → AreBegunIn shown tables tallies) }
     ensures count { IfOk result (λ tallies. length tallies ≡ P.count pages.now) }
     // Numbers, counts and last records do not depend on what the pages hold.
-    ensures scanned { IfOk result (λ tallies. (redo_lsn base : ℕ)
-        → AreScanned redo_lsn base base tallies) }
+    ensures scanned { IfOk result AreScannedAtFirst }
     ensures err { IsOkUnless result NoResource }
 {
     let count = page_count(pages)?;

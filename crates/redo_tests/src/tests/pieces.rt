@@ -100,8 +100,37 @@ fn tallied<P: Pages>(
     Ok(scan)
 }
 
+/// The tallies of the pages after one piece, by tables that list each page from its first record on.
+fn tallied_alone<P: Pages>(alloc: Global, piece: &Log, pages: &P) -> Result<TallyScan, Fault> {
+    let base = piece.base();
+    let mut scan = TallyScan::begin_listed(alloc, pages, base.saturating_add(1), base)?;
+    take_each(&mut scan, piece)?;
+    Ok(scan)
+}
+
+/// Joins a scan with that of the piece after it.
+fn join(scan: &mut TallyScan, later: &TallyScan) -> Result<(), Fault> {
+    if scan.pages() != later.pages() || scan.upto() > later.base() {
+        return Err(Fault::BadParting);
+    }
+    scan.join(later)
+}
+
+/// The tallies of the pages at the end of a log without a checkpoint. Each of these pieces is tallied
+/// by itself, and then joined with those before it.
+fn joined<P: Pages>(alloc: Global, pieces: &[Vec<u8>], pages: &P) -> Result<TallyScan, Fault> {
+    let mut scan = TallyScan::begin_listed(alloc, pages, 1, 0)?;
+    for piece in pieces {
+        let (piece, _) = read_log(alloc, piece)?;
+        let later = tallied_alone(alloc, &piece, pages)?;
+        join(&mut scan, &later)?;
+    }
+    Ok(scan)
+}
+
 /// Redo of pages by a log that is read twice in pieces of this many records: once for the tallies,
-/// and once for the images. Returns how many records were applied.
+/// and once for the images. Without a checkpoint the tallies are those of all pieces, joined. Returns
+/// how many records were applied.
 fn redo_on<P: Pages>(
     alloc: Global,
     log: &[u8],
@@ -110,8 +139,14 @@ fn redo_on<P: Pages>(
     records: u64,
 ) -> Result<u64, Fault> {
     let pieces = cut(alloc, log, records)?;
-    let scan = tallied(alloc, log, master, &pieces, pages)?;
+    let mut scan = tallied(alloc, log, master, &pieces, pages)?;
     let applied = scan.applied();
+    if master == 0 {
+        scan = joined(alloc, &pieces, pages)?;
+    }
+    if scan.applied() != applied {
+        return Err(Fault::BadParting);
+    }
     let mut taken = 0;
     for piece in &pieces {
         let (piece, _) = read_log(alloc, piece)?;

@@ -6,7 +6,7 @@ use Rattle.redo.proofs.Joining.{joined_few, scanned_joined, all_joined}
 use Rattle.redo.proofs.tally_scan.TallyScan.join.Goals as goal
 
 pub join_each-joined-requires-clause-room : goal.join_each-joined-requires-clause-room
-join_each-joined-requires-clause-room c = λ k t lt.
+join_each-joined-requires-clause-room c = λ k lt t.
     let old = c.self.inside in
     let rest = c.later.inside in
     let le : old.upto ≤ rest.base = omega (arith, c.requires.upto, ap (λ (s : TalliesSoFar). s.upto) c.self.view_is, ap (λ (s : TalliesSoFar). s.base) c.later.view_is) in
