@@ -206,10 +206,10 @@ FEW = ['nothing fails', 'no checkpoint', 'updates and commits alone are read']
 WAYS = [
     ('recover, 3 records', 335, 'aries_cli/main.rt:main', FEW + ['a recovery', 'new files', 'in pieces', 'one worker']),
     ('recover in place, 3 records', 378, 'aries_cli/main.rt:main', FEW + ['a recovery', 'in place', 'in pieces', 'one worker']),
-    ('recover in memory, 3 records, 1 worker', 283, 'aries_cli/main.rt:main', FEW + ['a recovery', 'new files', 'in memory', 'one worker']),
-    ('recover in memory, 3 records, 4 workers', 318, 'aries_cli/main.rt:main',
+    ('recover in memory, 3 records, 1 worker', 282, 'aries_cli/main.rt:main', FEW + ['a recovery', 'new files', 'in memory', 'one worker']),
+    ('recover in memory, 3 records, 4 workers', 317, 'aries_cli/main.rt:main',
      FEW + ['a recovery', 'new files', 'in memory', 'several workers', 'a short log']),
-    ('recover in memory, 100 MB with a checkpoint, 4 workers', 371, 'aries_cli/main.rt:main',
+    ('recover in memory, 100 MB with a checkpoint, 4 workers', 370, 'aries_cli/main.rt:main',
      ['nothing fails', 'a recovery', 'new files', 'in memory', 'several workers', 'a long log']),
     ('aries_recover (C)', 164, 'aries_c/recovered.rt:aries_recover', FEW + ['no threads']),
     ('audit, with a checkpoint', 237, 'aries_cli/main.rt:main', ['nothing fails', 'an audit']),

@@ -3,7 +3,6 @@
 ghost use Rattle.std.specs.Prelude.{◌≢◌};
 ghost use Rattle.page.specs.declared.fault.Fault.TheVariants.{NoResource};
 
-use crate::early::EarlyFile;
 use crate::in_pieces::recover_opened;
 use crate::new_file::{make, open, sync_folder};
 use device::{FileSink, FileSource, Reread, Source, read_full_at};
@@ -110,7 +109,6 @@ fn recover_made<R: Files<File = File> + Clock + Threads + Sync>(
     let in_pieces = is_read_in_pieces(rt, alloc, &log, &old.log)?;
     let mut log = FileSource::sized(NotedFile::new(log, rt, &old.log));
     let mut out_log = FileSink::new(NotedFile::new(new_log, rt, &new.log));
-    let new_store = EarlyFile::new(new_store);
     let mut out_store = FileSink::new(NotedFile::new(new_store, rt, &new.store));
     if in_pieces {
         let mut new_log = CopiedLog { sink: out_log };

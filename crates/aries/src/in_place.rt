@@ -8,7 +8,6 @@
 //! or that a power failure ended, can be run again. The log is locked from the first reading to the
 //! end, so that no two runs do this at once.
 
-use crate::early::EarlyFile;
 use crate::files::has_low_lsns;
 use crate::in_pieces::recover_opened;
 use crate::left::{Finished, finish, remove_left};
@@ -90,7 +89,6 @@ fn recover_made<'x, R: Files<File = File> + Clock>(
         tail: FileSink::new(new_tail),
         log: FileLog::new(NotedFile::new(out_log, rt, &files.out_log)),
     };
-    let new_store = EarlyFile::new(new_store);
     let mut out_store = FileSink::new(NotedFile::new(new_store, rt, &files.new_store));
     recover_opened(
         rt,

@@ -12,7 +12,6 @@
 //! - `files`: from two files to two files, or an audit; in memory or in pieces.
 //! - `in_pieces`: a recovery in pieces, for new files and in place.
 //! - `new_file`: owners and rights of new files, and how their names reach the disk.
-//! - `early`: a new store whose bytes begin to reach the disk while it is written.
 //! - `in_place`: a recovery in place, which syncs what it finds, finishes it, and then recovers.
 //! - `names`: which files a run in place may change.
 //! - `left`: what an interrupted run left, and how it is finished.
@@ -20,7 +19,6 @@
 //! - `verbose`: the lines on standard error, why a job failed, and with `--verbose` what it took.
 #![tactic(auto)]
 
-mod early;
 mod files;
 mod in_pieces;
 mod in_place;
