@@ -3,13 +3,13 @@
 
 usage: bench/count.py [--keep] [--program FILE] [--aries FILE] [JOB..]
 
-The runs are the small ones of crates/workloads/stdout, the LARGER ones below, and the recoveries of FILES by `aries`; or
-those of each JOB. Each is run under `valgrind --tool=callgrind`. What the program's own functions take counts; what the C library takes does not, since its
-copies differ from processor to processor. So a request for memory, which the library serves, counts as much as it takes
-there, about. A run fails that takes more than 3 % above what is kept, and prints the ten
-functions that grew most. One that takes more than 3 % below asks for its count to be kept: --keep does that, for the runs
-that are counted. The status is 1 where a run fails. Where valgrind is missing nothing is counted, which fails where CI is
-set in the environment.
+The runs are the small ones of crates/workloads/stdout, the LARGER ones below, and the recoveries of FILES by `aries`;
+or those of each JOB. Each is run under `valgrind --tool=callgrind`. What the program's own functions take counts; what
+the C library takes does not, since its copies differ from processor to processor. So a request for memory, which the
+library serves, counts as much as it takes there, about. A run fails that takes more than 3 % above what is kept, and
+prints the ten functions that grew most. One that takes more than 3 % below asks for its count to be kept: --keep does
+that, for the runs that are counted. The status is 1 where a run fails. Where valgrind is missing nothing is counted,
+which fails where CI is set in the environment.
 """
 import argparse
 import concurrent.futures
