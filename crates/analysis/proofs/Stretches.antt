@@ -146,7 +146,7 @@ pub describes_more : (lsn : ℕ) (g : Glance) (old new : Stretch) → AddsRecord
 describes_more lsn g old new step log r is at describes t base =
     entry_next t 0 base _ _ log r lsn (omega arith) at (describes t base) (entry_glanced lsn t r g _ _ is (step t base))
 
--- BEHIND A LOG
+-- AFTER A LOG
 -- the records of a stretch all come after m
 same_after : (t m : ℕ) (base : Option TableEntry) (log : History) (records : List LogRecord) → m ≤ last_lsn log
     → analysed_entry t m base log ≡ analysed_entry t 0 base log → analysed_entry t m base (log ▸▸ records) ≡ analysed_entry t 0 base (log ▸▸ records)
