@@ -30,6 +30,10 @@ abbrev pub IfStretch : List ℕ → Result (Option Stretch) Fault → Type 0
 IfStretch bytes (Ok found) = IfSome found (IsStretch bytes)
 IfStretch bytes (Err e) = e ≡ NoResource
 
+-- a frame with this LSN begins at the offset
+abbrev pub HasFrame : List ℕ → (lsn offset : ℕ) → Type 0
+HasFrame bytes lsn offset = (r : LogRecord) × (size : ℕ) × (next_at lsn 0 (drop offset bytes) ≡ Ok (Some (r, size)))
+
 -- there is no frame with this LSN at the offset, wherever in a log these bytes are
 abbrev pub HasNoFrame : List ℕ → (lsn offset : ℕ) → Type 0
 HasNoFrame bytes lsn offset = (place : ℕ) (r : LogRecord) (size : ℕ) → next_at lsn place (drop offset bytes) ≢ Ok (Some (r, size))

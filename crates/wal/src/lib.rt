@@ -67,5 +67,5 @@ pub use sizes::{
     ABSENT, BASED_HEADER_BYTES, CELL_HEAD, CHECKPOINT_FRAME, DIRTY_BYTES, ENTRY_BYTES,
     LARGEST_BASE, LONGEST_FRAME, LSN_BYTES, PLAIN_FRAME, SMALLEST_FRAME,
 };
-pub use stretch::Stretch;
+pub use stretch::{Stretch, guess};
 pub use view::{DirtyTable, RecordView, TransactionTable, value_of};

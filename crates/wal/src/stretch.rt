@@ -3,7 +3,7 @@
 ghost use Rattle.std.specs.Prelude.{◌≡◌, ◌≤◌, ◌<◌, ◌+◌, ◌^◌, ℕ, List, All, Ok, Some, length, IfOk, IfSome, IsOkUnless};
 ghost use Rattle.page.specs.declared.fault.Fault.TheVariants.{NoResource};
 ghost use Rattle.wal.specs.Frames.{next_at};
-ghost use Rattle.wal.specs.Stretches.{IsStretch, IfStretch, LeavesRoom, HasNoFrame};
+ghost use Rattle.wal.specs.Stretches.{IsStretch, IfStretch, LeavesRoom, HasFrame, HasNoFrame};
 
 use crate::field::u64_at;
 use crate::next::seen_at;
@@ -88,7 +88,8 @@ pub fn read_on(bytes: &[u8], known: Stretch, upto: usize) -> Result<Stretch, Fau
 
 /// The LSN of the frame at the front, if these bytes begin with one.
 fn lsn_in_front(bytes: &[u8]) -> Option<u64>
-    ensures { IfSome result LeavesRoom }
+    ensures found { IfSome result (λ lsn. HasFrame bytes.now lsn 0) }
+    ensures low { IfSome result LeavesRoom }
 {
     let (_, body) = bytes.split_at_checked(5)?;
     let (lsn, _) = u64_at(body)?;
@@ -102,10 +103,13 @@ fn lsn_in_front(bytes: &[u8]) -> Option<u64>
 }
 
 /// The first place from `from` on and before `upto` that looks like the beginning of a frame, and
-/// the LSN of that frame. The bytes of a value may look like that too.
+/// the LSN of that frame. The bytes of a value may look like that too, so what is read from there
+/// counts only if a frame of the log ends there. An LSN above 3 * 2^62 is not taken.
 pub fn guess(bytes: &[u8], from: usize, upto: usize) -> Option<(u64, usize)>
     requires { upto ≤ length bytes.now }
-    ensures { IfSome result (λ x. LeavesRoom x.0 × (x.1 ≤ length bytes.now)) }
+    ensures found { IfSome result (λ x. HasFrame bytes.now x.0 x.1) }
+    ensures within { IfSome result (λ x. (from ≤ x.1) × (x.1 < upto)) }
+    ensures low { IfSome result (λ x. LeavesRoom x.0) }
 {
     for begin in from..upto {
         let (_, rest) = bytes.split_at(begin);
