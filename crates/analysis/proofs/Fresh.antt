@@ -6,7 +6,7 @@ use Rattle.std.specs.Ordering.{nat_cmp}
 use Rattle.std.proofs.lemmas.Bool.{cases_Bool, cases_eq, ltb-true, ltb-false, le-leb, le-ltb}
 use Rattle.wal.specs.declared.record.Entry.{Entry}
 use Rattle.wal.specs.Content.{entry_of}
-use Rattle.log_laws.specs.Records.{LogRecord, History, start, ◌▸◌, LogContent, history, last_lsn, base_lsn, page_in}
+use Rattle.log_laws.specs.Records.{LogRecord, History, start, ◌▸◌, ◌▸▸◌, LogContent, history, last_lsn, base_lsn, page_in}
 use Rattle.log_laws.specs.Meaning.{Change, change_of, cell_of, is_on, is_on_page}
 use Rattle.log_laws.specs.Redo.{rec_lsn_of}
 use Rattle.log_laws.specs.Checkpoint.{or_else}
@@ -15,7 +15,8 @@ use Rattle.log_laws.proofs.Rising.{RisesFrom, rises_rising}
 use Rattle.tables.specs.Tables.{TablesContent}
 use Rattle.analysis.specs.Tables.{entry_at, first_behind, redo_lsn_of, AreTablesOf}
 use Rattle.analysis.specs.Steps.{lower}
-use Rattle.analysis.specs.Fresh.{first_change, FreshTables, HasFound, AreFreshTables}
+use Rattle.analysis.specs.Fresh.{first_with, first_change, FreshTables, HasFound, AreFreshTables, FoundStretch, ContinuesFresh}
+use Rattle.analysis.specs.Stretch.{ContinuesLog}
 use Rattle.analysis.proofs.Rising.{entries_rise}
 use Rattle.analysis.proofs.Scanned.{or_else-none}
 use Rattle.analysis.proofs.Smallest.{not_below, lower-min}
@@ -131,6 +132,37 @@ lower_later : (n lsn : ℕ) → n < lsn → lower n lsn ≡ cond (eqb n 0) lsn n
 lower_later n lsn lt =
     let later : ltb lsn n ≡ false = le-ltb lsn n (omega (arith, lt)) in
     elim (cases_Bool (eqb n 0)) [ inl e ↦ rw e refl | inr e ↦ rw (e, later) refl ]
+
+pub first_more : (log : History) (r : LogRecord) (first lsn now : ℕ) → last_lsn log ≡ lsn → first ≡ first_change log → now ≡ first_with first (lsn + 1) r → now ≡ first_change (log ▸ r)
+first_more log r first lsn now at same step = (let next : lsn + 1 ≡ suc (last_lsn log) = omega (arith, at) in step ∙ ap₂ (λ n l. first_with n l r) same next)
+
+-- MORE RECORDS: the first one that changes a page is the one that was found, or the first of them that does
+first_step : (n : ℕ) (a b : History) (r : LogRecord) → last_lsn a ≡ last_lsn b
+    → first_change a ≡ cond (eqb n 0) (first_change b) n → first_change (a ▸ r) ≡ cond (eqb n 0) (first_change (b ▸ r)) n
+first_step n a b r at same =
+    elim (cases_Bool (eqb n 0)) [
+      | inl i ↦ (let found : first_change a ≡ first_change b = rw i at same in rw i (ap₂ (λ k l. first_with k (suc l) r) found at))
+      | inr i ↦
+          (let found : first_change a ≡ n = rw i at same in
+          rw i (ap (λ k. first_with k (suc (last_lsn a)) r) found ∙ ap (λ c. cond c (cond (is_some (cell_of r)) (suc (last_lsn a)) 0) n) i))
+    ]
+
+first_after : (n : ℕ) (a b : History) (records : List LogRecord) → last_lsn a ≡ last_lsn b
+    → first_change a ≡ cond (eqb n 0) (first_change b) n → first_change (a ▸▸ records) ≡ cond (eqb n 0) (first_change (b ▸▸ records)) n
+first_after n a b [] at same = same
+first_after n a b (r ∷ records) at same = first_after n (a ▸ r) (b ▸ r) records (ap suc at) (first_step n a b r at same)
+
+pub first_goes_on : (log : History) (records : List LogRecord)
+    → first_change (log ▸▸ records) ≡ cond (eqb (first_change log) 0) (first_change (start (last_lsn log) ▸▸ records)) (first_change log)
+first_goes_on log records = first_after (first_change log) log (start (last_lsn log)) records refl (sym (changes_none (first_change log)))
+
+-- JOINED: a stretch to what was found before it
+pub stretch_joined : (later : FoundStretch) (old new : FreshTables) → ContinuesLog later.stretch old.entries new.entries
+    → new.first_change ≡ cond (eqb old.first_change 0) later.first_change old.first_change → ContinuesFresh later old new
+stretch_joined later old new entries first log records told found = record {
+  entries_are = λ t. entries t 0 None log records (omega arith) told.describes (found.entries_are t);
+  first_is = first ∙ ap₂ (λ n l. cond (eqb n 0) l n) found.first_is told.first_is ∙ sym (first_goes_on log records);
+}
 
 -- THE TABLE
 record IsListed (log : History) : Type 0 where

@@ -160,6 +160,20 @@ stretches_go_on t m base log records stretch le describes =
     let before = analysed_entry t m base log in
     entries_go_on t m base log records ∙ same_after t m before (start (last_lsn log)) records le refl ∙ sym (describes t before)
 
+-- NO ENTRY behind a stretch that has none, if there is none before it
+left_none : (finished undone : Bool) → base_left finished undone None ≡ None
+left_none true undone = refl
+left_none false true = refl
+left_none false false = refl
+
+pub none_behind : (t : ℕ) (stretch : Stretch) → entry_at t stretch.entries ≡ None → entry_behind t stretch None ≡ None
+none_behind t stretch none = ap₂ (entry_joined t) none (left_none (is_among t stretch.finished) (is_among t stretch.undone))
+
+-- and only then
+pub none_joined : (t : ℕ) (own base : Option TableEntry) → entry_joined t own base ≡ None → own ≡ None
+none_joined t None base none = refl
+none_joined t (Some e) base none = absurd cc
+
 -- LISTS OF TRANSACTIONS
 -- one more
 pub among_push : (t tx : ℕ) (listed : List ℕ) → is_among t (listed ++ tx ∷ []) ≡ (is_among t listed || eqb tx t)

@@ -6,12 +6,13 @@ use Rattle.wal.specs.declared.glance.Glance.{Glance}
 use Rattle.wal.specs.declared.record.Entry.{Entry}
 use Rattle.wal.specs.Glances.{glance_of}
 use Rattle.wal.specs.Spelling.{Fits}
-use Rattle.log_laws.specs.Records.{LogRecord, LogContent, History, start, ◌▸◌, history, last_lsn}
+use Rattle.log_laws.specs.Records.{LogRecord, LogContent, History, start, ◌▸◌, ◌▸▸◌, history, last_lsn}
 use Rattle.log_laws.specs.Meaning.{BasePages, cell_of}
 use Rattle.log_laws.specs.Store.{Lawful}
 use Rattle.tables.specs.Lawful.{AreTrue}
 use Rattle.tables.specs.Tables.{TablesContent}
 use Rattle.analysis.specs.Tables.{AreTablesOf, analysed_entry, entry_at, with_dirty}
+use Rattle.analysis.specs.Stretch.{Stretch, Describes}
 
 -- the LSN of the first record that changes a page, 0 for none, after one more record
 abbrev pub first_with : (first lsn : ℕ) → LogRecord → ℕ
@@ -49,3 +50,22 @@ pub record AreFreshTables (log : LogContent) (tables : TablesContent) : Type 0 w
   pub dirty : List (ℕ × ℕ)
   pub are : AreTablesOf log 0 (with_dirty dirty tables)
   pub truth : (over : BasePages) (store : StoreContent) → Lawful over log store → store.master ≡ 0 → AreTrue log store (with_dirty dirty tables)
+
+-- STRETCHES, each found without what is before it
+-- what the records of a stretch do to the transaction table, and the LSN of the first one that changes a page
+pub record FoundStretch : Type 0 where
+  pub stretch : Stretch
+  pub first_change : ℕ
+
+-- what was found in a stretch, which is a log by itself: its base LSN is the last LSN of what is before it
+pub record HasFoundIn (log : History) (found : FoundStretch) : Type 0 where
+  pub describes : Describes log found.stretch
+  pub first_is : found.first_change ≡ first_change log
+
+-- it looks at the record after this LSN, which is seen so at a glance, and has found that in each stretch which ends there
+abbrev pub FindsInStretch : (lsn : ℕ) → Glance → (old new : FoundStretch) → Type 0
+FindsInStretch lsn glance old new = (log : History) (r : LogRecord) → glance ≡ glance_of r → Fits r → last_lsn log ≡ lsn → HasFoundIn log old → HasFoundIn (log ▸ r) new
+
+-- joined to what was found in the log before the stretch, it is what is found in the log with the records of the stretch
+abbrev pub ContinuesFresh : (later : FoundStretch) → (old new : FreshTables) → Type 0
+ContinuesFresh later old new = (log : History) (records : List LogRecord) → HasFoundIn (start (last_lsn log) ▸▸ records) later → HasFound log old → HasFound (log ▸▸ records) new

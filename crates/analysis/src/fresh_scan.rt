@@ -1,6 +1,6 @@
 //! Analysis without a checkpoint, while a log is read, record after record.
 
-ghost use Rattle.std.specs.Prelude.{◌≡◌, ◌<◌, ◌+◌, ◌^◌, ℕ, IfOk, OnOk, IsOkUnless};
+ghost use Rattle.std.specs.Prelude.{◌≡◌, ◌<◌, ◌+◌, ◌^◌, ℕ, [], IfOk, OnOk, IsOkUnless};
 ghost use Rattle.page.specs.declared.fault.Fault.TheVariants.{NoResource};
 ghost use Rattle.wal.specs.Glances.{glance_of};
 ghost use Rattle.wal.specs.Spelling.{Fits};
@@ -22,8 +22,8 @@ use wal::Glance;
 /// changes a page.
 #[derive(Drop)]
 pub struct FreshScan {
-    transactions: TransactionScan,
-    first_change: u64,
+    pub(crate) transactions: TransactionScan,
+    pub(crate) first_change: u64,
 }
 
 impl Model for FreshScan {
@@ -37,7 +37,7 @@ impl Model for FreshScan {
 /// The LSN of the first record that changes a page, after the record at an LSN was looked at; 0 if
 /// there is none. The record is given at a glance.
 #[inline(always)]
-fn first_change_after(first: u64, glance: Glance, lsn: u64) -> u64
+pub(crate) fn first_change_after(first: u64, glance: Glance, lsn: u64) -> u64
     ensures { IsFirstWith first lsn glance result }
 {
     if first != 0 {
@@ -80,6 +80,7 @@ impl FreshScan {
     pub fn finish(self, alloc: Global) -> Result<Tables, Fault>
         ensures tables { IfOk result (λ tables. ForFound self
             (λ log. AreFreshTables log tables)) }
+        ensures none_listed { IfOk result (λ tables. tables.dirty ≡ []) }
         ensures no_transaction_0 { HasNone0 self.entries → IfOk result AreWithout0 }
         ensures err { IsOkUnless result NoResource }
     {

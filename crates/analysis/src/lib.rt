@@ -5,7 +5,8 @@
 //! [`CheckpointScan`] finds the tables of the checkpoint, and from these on [`TableScan`] those of
 //! the crash. Without a checkpoint [`FreshScan`] finds them, without the dirty pages. If several
 //! threads look at one stretch of the log each, [`StretchScan`] finds what it does to the transaction
-//! table, and [`TransactionScan`] joins it.
+//! table, and [`TransactionScan`] joins it; without a checkpoint [`FreshStretch`] and [`FreshScan`]
+//! do so.
 //!
 //! The promise: on every log it finds the tables of the definition. On a lawful log and its store
 //! they list exactly the unfinished transactions, and redo by them skips no record that a page
@@ -24,6 +25,7 @@
 //! - `fresh_scan`: the same without a checkpoint. The dirty pages are not listed (`Fresh`).
 //! - `stretch_scan`, `stretch_join`, `stretch_laws`: a stretch of the log that is looked at without
 //!   the table before it, and then joined to that table (`Stretch`).
+//! - `fresh_stretch`: the same without a checkpoint (`Fresh`).
 //! - `laws`: a log has one pair of tables, and at most one fault.
 #![tactic(auto)]
 
@@ -32,6 +34,7 @@ mod base;
 mod checkpoint_scan;
 mod dirty;
 mod fresh_scan;
+mod fresh_stretch;
 mod kept;
 mod laws;
 mod page_scan;
@@ -47,6 +50,7 @@ pub use apart::{analyse_transactions, join_tables};
 pub use checkpoint_scan::CheckpointScan;
 pub use dirty::analyse_pages;
 pub use fresh_scan::FreshScan;
+pub use fresh_stretch::FreshStretch;
 pub use laws::{entries_go_on, no_fault_of_tables, one_base_fault, one_tables, rec_lsns_go_on};
 pub use page_scan::PageScan;
 pub use pass::analyse;

@@ -4,7 +4,8 @@
 use super::analysed::ROWS;
 use super::records::{log_of, put};
 use analysis::{
-    CheckpointScan, FreshScan, PageScan, StretchScan, TableScan, Tables, TransactionScan, analyse,
+    CheckpointScan, FreshScan, FreshStretch, PageScan, StretchScan, TableScan, Tables,
+    TransactionScan, analyse,
 };
 use checks::check;
 use page::Fault;
@@ -117,6 +118,27 @@ fn joined_by(alloc: Global, pieces: &[Vec<u8>]) -> Result<BTreeMap<u32, Entry>, 
     transactions.finish()
 }
 
+/// Gives each record of a piece to the scan of a stretch without a checkpoint.
+fn find_each_apart(stretch: &mut FreshStretch, piece: &Log) -> Result<(), Fault> {
+    for lsn in piece.base()..piece.last() {
+        stretch.take(lsn, piece.glance_after(lsn))?;
+    }
+    Ok(())
+}
+
+/// The tables without dirty pages, after a log without a checkpoint. Each of these pieces is scanned
+/// by itself, and then joined to what was found before it.
+fn fresh_joined_by(alloc: Global, pieces: &[Vec<u8>]) -> Result<Tables, Fault> {
+    let mut scan = FreshScan::begin(alloc);
+    for bytes in pieces {
+        let (piece, _) = read_log(alloc, bytes)?;
+        let mut stretch = FreshStretch::begin(alloc);
+        find_each_apart(&mut stretch, &piece)?;
+        scan.join(stretch)?;
+    }
+    scan.finish(alloc)
+}
+
 /// Whether two transaction tables are the same.
 fn are_same_transactions(a: &BTreeMap<u32, Entry>, b: &BTreeMap<u32, Entry>) -> bool {
     for (tx, entry) in a {
@@ -168,19 +190,28 @@ fn is_each_same(alloc: Global, log: &Log, pieces: &[Vec<u8>], master: u64) -> bo
     }
 }
 
+/// Whether tables that were found without a checkpoint are these, without the dirty pages.
+fn is_fresh(whole: &Tables, fresh: &Tables) -> bool {
+    are_same_transactions(&whole.transactions, &fresh.transactions)
+        && whole.redo_lsn == fresh.redo_lsn
+        && fresh.dirty.is_empty()
+}
+
 /// Whether the scan without a checkpoint and the joined stretches find what analysis without a
 /// checkpoint does.
 fn are_fresh_same(alloc: Global, log: &Log, pieces: &[Vec<u8>]) -> bool {
     let Ok(whole) = analyse(alloc, log, 0) else {
         return false;
     };
-    let (Ok(fresh), Ok(joined)) = (fresh_by(alloc, pieces), joined_by(alloc, pieces)) else {
+    let (Ok(fresh), Ok(joined)) = (fresh_by(alloc, pieces), fresh_joined_by(alloc, pieces)) else {
         return false;
     };
-    are_same_transactions(&whole.transactions, &fresh.transactions)
-        && are_same_transactions(&whole.transactions, &joined)
-        && whole.redo_lsn == fresh.redo_lsn
-        && fresh.dirty.is_empty()
+    let Ok(transactions) = joined_by(alloc, pieces) else {
+        return false;
+    };
+    is_fresh(&whole, &fresh)
+        && is_fresh(&whole, &joined)
+        && are_same_transactions(&whole.transactions, &transactions)
 }
 
 /// Whether analysis of these pieces finds what analysis of the log does: the tables, or the fault.

@@ -1,10 +1,10 @@
-use Rattle.std.proofs.Common.{suc, ◌≡◌, ◌+◌, eqb, cond, is_some, ap, ap₂, ◌∙◌, None, arith}
+use Rattle.std.proofs.Common.{◌≡◌, ◌+◌, ap, ◌∙◌, None, arith}
 use Rattle.log_laws.specs.Records.{last_lsn}
-use Rattle.log_laws.specs.Meaning.{cell_of}
 use Rattle.analysis.specs.Fresh.{FreshTables}
 use Rattle.analysis.specs.Steps.{entry_after}
 use Rattle.analysis.specs.Tables.{entry_at}
 use Rattle.analysis.proofs.Scanned.{entry_next, entry_glanced}
+use Rattle.analysis.proofs.Fresh.{first_more}
 use Rattle.analysis.proofs.Numbers.{none_noted}
 use Rattle.analysis.proofs.fresh_scan.FreshScan.take.Goals as goal
 
@@ -16,8 +16,7 @@ returns-clause-goes_on c = λ log r is fits at found.
     record {
       entries_are = λ t. entry_next t 0 None _ _ log r lsn (omega arith) next (ap (entry_at t) same ∙ found.entries_are t) (entry_glanced lsn t r c.args.glance _ _ is (c.in_ok-note.ensures.entries t));
       first_is =
-          c.first_change_after-self-inside.ensures r is
-          ∙ ap₂ (λ n l. cond (eqb n 0) (cond (is_some (cell_of r)) l 0) n) (ap (λ (s : FreshTables). s.first_change) c.self.view_is ∙ found.first_is) (let l : lsn ≡ suc (last_lsn log) = omega (arith, at) in l);
+          first_more log r _ c.args.lsn _ at (ap (λ (s : FreshTables). s.first_change) c.self.view_is ∙ found.first_is) (c.first_change_after-self-inside.ensures r is);
     }
 
 pub returns-clause-no_transaction_0 : goal.returns-clause-no_transaction_0
