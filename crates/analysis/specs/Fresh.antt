@@ -52,7 +52,7 @@ pub record AreFreshTables (log : LogContent) (tables : TablesContent) : Type 0 w
   pub truth : (over : BasePages) (store : StoreContent) → Lawful over log store → store.master ≡ 0 → AreTrue log store (with_dirty dirty tables)
 
 -- STRETCHES, each found without what is before it
--- what the records of a stretch do to the transaction table, and the LSN of the first one that changes a page
+-- what the records of a stretch do to the transaction table, and the LSN of the first one that changes a page, 0 for none
 pub record FoundStretch : Type 0 where
   pub stretch : Stretch
   pub first_change : ℕ
@@ -64,8 +64,10 @@ pub record HasFoundIn (log : History) (found : FoundStretch) : Type 0 where
 
 -- it looks at the record after this LSN, which is seen so at a glance, and has found that in each stretch which ends there
 abbrev pub FindsInStretch : (lsn : ℕ) → Glance → (old new : FoundStretch) → Type 0
-FindsInStretch lsn glance old new = (log : History) (r : LogRecord) → glance ≡ glance_of r → Fits r → last_lsn log ≡ lsn → HasFoundIn log old → HasFoundIn (log ▸ r) new
+FindsInStretch lsn glance old new = (log : History) (r : LogRecord) → glance ≡ glance_of r → Fits r → last_lsn log ≡ lsn
+    → HasFoundIn log old → HasFoundIn (log ▸ r) new
 
 -- joined to what was found in the log before the stretch, it is what is found in the log with the records of the stretch
 abbrev pub ContinuesFresh : (later : FoundStretch) → (old new : FreshTables) → Type 0
-ContinuesFresh later old new = (log : History) (records : List LogRecord) → HasFoundIn (start (last_lsn log) ▸▸ records) later → HasFound log old → HasFound (log ▸▸ records) new
+ContinuesFresh later old new = (log : History) (records : List LogRecord) → HasFoundIn (start (last_lsn log) ▸▸ records) later
+    → HasFound log old → HasFound (log ▸▸ records) new

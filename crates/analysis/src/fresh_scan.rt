@@ -18,8 +18,8 @@ use wal::Glance;
 
 /// What analysis finds without a checkpoint while a log is read: the transaction table, and the LSN
 /// from which redo begins. It does not list the dirty pages. The records are given one by one in the
-/// order of the log, up to its last. Contracts see the entries, and the LSN of the first record that
-/// changes a page.
+/// order of the log, up to its last; or what was found of a stretch of them is joined. Contracts see
+/// the entries, and the LSN of the first record that changes a page.
 #[derive(Drop)]
 pub struct FreshScan {
     pub(crate) transactions: TransactionScan,
