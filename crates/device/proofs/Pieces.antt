@@ -4,7 +4,9 @@ use Rattle.std.proofs.lemmas.List.{take_rest, drop-drop}
 use Rattle.std.proofs.Math.Seq.{take-append_seam}
 use Rattle.std.specs.declared.option.Option.{Option}
 use Rattle.std.specs.declared.option.Option.TheVariants.{None, Some}
-use Rattle.std.specs.Io.KnownBytes.{Appends, Consumes, Keeps}
+use Rattle.std.specs.declared.result.Result.{Result}
+use Rattle.std.specs.declared.result.Result.TheVariants.{Ok, Err}
+use Rattle.std.specs.Io.KnownBytes.{Appends, Consumes, Keeps, ReadConsumes}
 use Rattle.std.proofs.KnownBytes.{Appends-kept, Consumes-trans}
 use Rattle.device.specs.Reread.{ReadsFrom}
 use Rattle.device.specs.Transfer.{ReadBehind, TookBeginning}
@@ -47,3 +49,8 @@ filled_from (Some held) (Some same) offset f n old new kept front done read =
     let rest = drop offset held in
     let behind : take n (drop f new) ≡ take n (drop f rest) = read ∙ ap (λ l. take n (drop (offset + f) l)) kept ∙ ap (take n) (sym (drop-drop f offset held)) in
     take-add f n new ∙ ap (λ l. l ++ take n (drop f new)) (front ∙ done) ∙ ap (λ l. take f rest ++ l) behind ∙ sym (take-add f n rest)
+
+-- a reading of a device whose bytes are not known
+pub reads_unknown : {E : Type 0} (result : Result ℕ E) (buffer : List ℕ) → ReadConsumes None None result buffer
+reads_unknown (Ok n) buffer = (tt, λ ends room. tt)
+reads_unknown (Err e) buffer = tt

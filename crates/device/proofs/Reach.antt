@@ -1,5 +1,5 @@
 -- How far a device is read without a gap, by one reading after another.
-use Rattle.std.proofs.Common.{◌≡◌, ℕ, ◌+◌, ◌≤◌, List, ap, arith, length, take, drop}
+use Rattle.std.proofs.Common.{ℕ, ◌+◌, ◌≤◌, List, ap, arith, length}
 use Rattle.std.specs.declared.option.Option.{Option}
 use Rattle.std.specs.declared.option.Option.TheVariants.{None, Some}
 use Rattle.std.specs.Io.KnownBytes.{Keeps}

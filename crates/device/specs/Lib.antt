@@ -5,5 +5,6 @@ pub mod Kept
 pub mod Memory
 pub mod Reread
 pub mod Rereading
+pub mod Shared
 pub mod Slow
 pub mod Transfer

@@ -2,8 +2,8 @@
 //! their traits, so it runs over files, over memory and over devices of yours.
 //!
 //! Entry points: the traits [`Source`] and [`Sink`], [`Reread`] for a source that can be read
-//! again, and [`Continue`] for a log that is continued in place. [`read_all`] and [`write_all`]
-//! move all bytes.
+//! again, [`Share`] for one that other threads read too, and [`Continue`] for a log that is
+//! continued in place. [`read_all`] and [`write_all`] move all bytes.
 //!
 //! The promise: an error means that the device failed. If the contract of a device knows its bytes,
 //! it says which were read or written, and which are flushed.
@@ -14,6 +14,7 @@
 //!   see (`Failures`, `Continued`, `Reread`).
 //! - `transfer`, `again`: loops that read or write everything, from the current place or from an
 //!   offset (`Transfer`).
+//! - `shared`: a source that several threads read at once, each by a reader of its own (`Shared`).
 //! - `memory`, `kept`: devices over memory (`Memory`, `Kept`).
 //! - `file`: devices over files; a flush of one also syncs the file (`Files`).
 //! - `slow`: devices for tests, which pass a few bytes a call and fail at a call chosen beforehand
@@ -25,6 +26,7 @@ mod failures;
 mod file;
 mod kept;
 mod memory;
+mod shared;
 mod slow;
 mod traits;
 mod transfer;
@@ -32,7 +34,8 @@ mod transfer;
 pub use again::read_full_at;
 pub use failures::Failures;
 pub use file::{FileLog, FileSink, FileSource};
-pub use memory::{MemorySink, MemorySource};
+pub use memory::{MemorySink, MemorySource, SharedBytes};
+pub use shared::{Share, SharedReader, SharedSource, Span};
 pub use slow::{Pace, SlowSink, SlowSource};
 pub use traits::{Continue, Failed, Reread, Sink, Source};
 pub use transfer::{ReadFault, read_all, read_front, read_full, read_rest, write_all};

@@ -1,18 +1,44 @@
 //! Devices over memory. Contracts know their bytes.
 
-ghost use Rattle.std.specs.Prelude.{◌≡◌, Some, [], length};
-ghost use Rattle.device.specs.Memory.{bytes_left, bytes_held, bytes_taken, bytes_flushed, failures_met};
+ghost use Rattle.std.specs.Prelude.{◌≡◌, Some, [], ◌^◌};
+ghost use Rattle.device.specs.Memory.{bytes_left, bytes_held, bytes_shared, bytes_taken, bytes_flushed, failures_met};
 
 use crate::again::bytes_from;
 use crate::kept::Kept;
-use crate::{Continue, Failed, Failures, Reread, Sink, Source};
+use crate::{Continue, Failed, Failures, Reread, Share, SharedSource, Sink, Source, Span};
 use std::alloc::Global;
 use std::io::Read;
+
+/// Borrowed bytes that several threads read at once. A read of them never fails.
+#[derive(Drop)]
+pub struct SharedBytes<'a> {
+    bytes: &'a [u8],
+}
+
+impl<'a> SharedBytes<'a> {
+    /// A source that holds these bytes.
+    pub fn new(bytes: &'a [u8]) -> SharedBytes<'a>
+        ensures { bytes_shared result ≡ bytes.now }
+    {
+        SharedBytes { bytes }
+    }
+}
+
+impl<'a> SharedSource for SharedBytes<'a> {
+    ghost text = { λ source. Some (bytes_shared source) };
+
+    fn read_at(&self, offset: u64, buffer: &mut [u8]) -> Result<usize, Failed> {
+        let held = bytes_from(self.bytes, offset);
+        let count = held.len().min(buffer.len());
+        buffer[..count].copy_from_slice(&held[..count]);
+        Ok(count)
+    }
+}
 
 /// A source of borrowed bytes. It never fails. Those bytes count as read from the start.
 #[derive(Drop)]
 pub struct MemorySource<'a> {
-    all: &'a [u8],
+    shared: SharedBytes<'a>,
     rest: &'a [u8],
 }
 
@@ -23,7 +49,7 @@ impl<'a> MemorySource<'a> {
         ensures text { bytes_held result ≡ bytes.now }
     {
         MemorySource {
-            all: bytes,
+            shared: SharedBytes::new(bytes),
             rest: bytes,
         }
     }
@@ -50,14 +76,26 @@ impl<'a> Source for MemorySource<'a> {
 impl<'a> Reread for MemorySource<'a> {
     ghost text = { λ source. Some (bytes_held source) };
 
-    ghost read_to = { λ source. length (bytes_held source) };
+    // All of the bytes are in memory, and past their end there are none.
+    ghost read_to = { λ _. 2 ^ 64 };
 
     fn read_at(&mut self, offset: u64, buffer: &mut [u8]) -> Result<usize, Failed> {
-        let held = bytes_from(self.all, offset);
+        let held = bytes_from(self.shared.bytes, offset);
         let count = held.len().min(buffer.len());
         buffer[..count].copy_from_slice(&held[..count]);
         Ok(count)
     }
+}
+
+impl<'a> Share for MemorySource<'a> {
+    type Shared = SharedBytes<'a>;
+
+    fn shared(&self) -> &SharedBytes<'a> {
+        &self.shared
+    }
+
+    /// Nothing is to be counted, since all bytes count as read.
+    fn count_read(&mut self, _span: Span) {}
 }
 
 /// A sink that keeps what it takes. It fails if it is refused the memory for it.
