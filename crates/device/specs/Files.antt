@@ -5,6 +5,7 @@ use Rattle.std.specs.Io.KnownBytes.{ReadConsumes, WriteAppends}
 use Rattle.device.specs.declared.file.FileSource.{FileSource}
 use Rattle.device.specs.declared.file.FileSink.{FileSink}
 use Rattle.device.specs.declared.file.FileLog.{FileLog}
+use Rattle.device.specs.declared.shared_file.SharedFileSource.{SharedFileSource}
 
 -- the file that is read
 abbrev pub read_file : {F : Type 0} → FileSource F → F
@@ -13,6 +14,10 @@ read_file source = source.file
 -- how often it failed
 abbrev pub read_failures : {F : Type 0} → FileSource F → ℕ
 read_failures source = source.failures.count
+
+-- the source of its own, of a file that other threads read too
+abbrev pub own_source : {F : Type 0} → SharedFileSource F → FileSource F
+own_source source = source.source
 
 -- if a read succeeded, the file was at the offset before it, if its position is known, and gave these bytes from there
 abbrev pub ReadsThere : {F E : Type 0} → (position : F → Option ℕ) → (remaining : F → Option (List ℕ)) → (before after : F) → (offset : ℕ)

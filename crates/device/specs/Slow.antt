@@ -2,15 +2,20 @@
 use Rattle.std.specs.Prelude.{ℕ, List}
 use Rattle.device.specs.declared.slow.SlowSource.{SlowSource}
 use Rattle.device.specs.declared.slow.SlowSink.{SlowSink}
+use Rattle.device.specs.declared.slow.SlowBytes.{SlowBytes}
 use Rattle.device.specs.Kept.{bytes_taken as kept_taken, bytes_flushed as kept_flushed}
 
 -- the bytes that are left to be read
 abbrev pub bytes_left : SlowSource → List ℕ
 bytes_left source = source.rest.now
 
+-- all bytes that threads read at once
+abbrev pub bytes_shared : SlowBytes → List ℕ
+bytes_shared source = source.bytes.now
+
 -- all bytes that the source holds
 abbrev pub bytes_held : SlowSource → List ℕ
-bytes_held source = source.all.now
+bytes_held source = bytes_shared source.shared
 
 -- how many of them are read at offsets, without a gap
 abbrev pub bytes_joined : SlowSource → ℕ

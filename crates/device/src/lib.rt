@@ -16,7 +16,7 @@
 //!   offset (`Transfer`).
 //! - `shared`: a source that several threads read at once, each by a reader of its own (`Shared`).
 //! - `memory`, `kept`: devices over memory (`Memory`, `Kept`).
-//! - `file`: devices over files; a flush of one also syncs the file (`Files`).
+//! - `file`, `shared_file`: devices over files; a flush of one also syncs the file (`Files`).
 //! - `slow`: devices for tests, which pass a few bytes a call and fail at a call chosen beforehand
 //!   (`Slow`).
 #![tactic(auto)]
@@ -27,6 +27,7 @@ mod file;
 mod kept;
 mod memory;
 mod shared;
+mod shared_file;
 mod slow;
 mod traits;
 mod transfer;
@@ -36,6 +37,7 @@ pub use failures::Failures;
 pub use file::{FileLog, FileSink, FileSource};
 pub use memory::{MemorySink, MemorySource, SharedBytes};
 pub use shared::{Share, SharedReader, SharedSource, Span};
-pub use slow::{Pace, SlowSink, SlowSource};
+pub use shared_file::{SharedFile, SharedFileSource};
+pub use slow::{Pace, SlowBytes, SlowSink, SlowSource};
 pub use traits::{Continue, Failed, Reread, Sink, Source};
 pub use transfer::{ReadFault, read_all, read_front, read_full, read_rest, write_all};

@@ -34,8 +34,8 @@ pub trait SharedSource: Sync {
 /// [`SharedReader`] makes one.
 #[derive(Clone, Copy, Debug)]
 pub struct Span {
-    from: u64,
-    to: u64,
+    pub(crate) from: u64,
+    pub(crate) to: u64,
 }
 
 /// A source that can be read again, by other threads too.

@@ -2,12 +2,13 @@
 //! beforehand. Contracts know their bytes.
 
 ghost use Rattle.std.specs.Prelude.{◌≡◌, Some, None, true, false, [], IfOk, ◌<◌, ◌≤◌, ◌-◌, ◌^◌};
-ghost use Rattle.device.specs.Slow.{bytes_left, bytes_held, bytes_joined, bytes_taken, bytes_flushed, read_failures, write_failures};
+ghost use Rattle.device.specs.Slow.{bytes_left, bytes_held, bytes_shared, bytes_joined, bytes_taken, bytes_flushed, read_failures, write_failures};
 
 use crate::again::{bytes_from, read_to_after};
 use crate::kept::Kept;
-use crate::{Continue, Failed, Failures, Reread, Sink, Source};
+use crate::{Continue, Failed, Failures, Reread, Share, SharedSource, Sink, Source, Span};
 use std::alloc::{AllocError, Global};
+use std::sync::atomic::{AtomicU64, Ordering};
 
 /// How fast a device is, and at which call it fails.
 #[derive(Clone, Copy, Debug)]
@@ -78,27 +79,80 @@ impl Pace {
     }
 }
 
+/// Borrowed bytes that several threads read at once. The call that fails is one of all their calls.
+#[derive(Drop)]
+pub struct SlowBytes<'a> {
+    bytes: &'a [u8],
+    pace: Pace,
+    /// How many calls there were.
+    calls: AtomicU64,
+}
+
+impl<'a> SlowBytes<'a> {
+    /// A source that holds these bytes.
+    pub fn new(bytes: &'a [u8], pace: Pace) -> SlowBytes<'a>
+        ensures { bytes_shared result ≡ bytes.now }
+    {
+        SlowBytes {
+            bytes,
+            pace,
+            calls: AtomicU64::new(0),
+        }
+    }
+
+    /// Counts a call. Returns whether it fails.
+    fn is_due(&self) -> bool {
+        let call = self.calls.fetch_add(1, Ordering::SeqCst).wrapping_add(1);
+        self.pace.fails_at.map(u64::from) == Some(call)
+    }
+}
+
+impl<'a> SharedSource for SlowBytes<'a> {
+    ghost text = { λ source. Some (bytes_shared source) };
+
+    fn read_at(&self, offset: u64, buffer: &mut [u8]) -> Result<usize, Failed> {
+        if self.is_due() {
+            return Err(Failed);
+        }
+        let held = bytes_from(self.bytes, offset);
+        let count = self.pace.count_of(held.len().min(buffer.len()));
+        buffer[..count].copy_from_slice(&held[..count]);
+        Ok(count)
+    }
+}
+
 /// A source of borrowed bytes.
 #[derive(Drop)]
 pub struct SlowSource<'a> {
-    all: &'a [u8],
+    shared: SlowBytes<'a>,
     rest: &'a [u8],
-    /// How far `read_at` has read without a gap.
+    /// How far they are read at offsets without a gap.
     read_to: u64,
     pace: Pace,
     failures: Failures,
 }
 
 impl<'a> SlowSource<'a> {
-    /// A source that has all of these bytes left.
+    /// A source that has all of these bytes left. As other threads read it, it passes as many bytes
+    /// a call and never fails.
     pub fn new(bytes: &'a [u8], pace: Pace) -> SlowSource<'a>
         ensures left { bytes_left result ≡ bytes.now }
         ensures failures { read_failures result ≡ 0 }
         ensures text { bytes_held result ≡ bytes.now }
         ensures unread { bytes_joined result ≡ 0 }
     {
+        SlowSource::sharing(bytes, pace, Pace::of_step(pace.step))
+    }
+
+    /// As `new`, but as other threads read it, it has a pace of its own.
+    pub fn sharing(bytes: &'a [u8], pace: Pace, shared_pace: Pace) -> SlowSource<'a>
+        ensures left { bytes_left result ≡ bytes.now }
+        ensures failures { read_failures result ≡ 0 }
+        ensures text { bytes_held result ≡ bytes.now }
+        ensures unread { bytes_joined result ≡ 0 }
+    {
         SlowSource {
-            all: bytes,
+            shared: SlowBytes::new(bytes, shared_pace),
             rest: bytes,
             read_to: 0,
             pace,
@@ -141,11 +195,25 @@ impl<'a> Reread for SlowSource<'a> {
             self.failures.rise();
             return Err(Failed);
         }
-        let held = bytes_from(self.all, offset);
+        let held = bytes_from(self.shared.bytes, offset);
         let count = self.pace.count_of(held.len().min(buffer.len()));
         buffer[..count].copy_from_slice(&held[..count]);
         self.read_to = read_to_after(self.read_to, offset, count);
         Ok(count)
+    }
+}
+
+impl<'a> Share for SlowSource<'a> {
+    type Shared = SlowBytes<'a>;
+
+    fn shared(&self) -> &SlowBytes<'a> {
+        &self.shared
+    }
+
+    fn count_read(&mut self, span: Span) {
+        if span.from <= self.read_to {
+            self.read_to = self.read_to.max(span.to);
+        }
     }
 }
 
