@@ -158,6 +158,8 @@ impl<'a, S: SharedSource> Reread for SharedReader<'a, S> {
 
     ghost read_to = { reader_read_to };
 
+    ghost begun = { reader_from };
+
     /// `Failed` too if the read ends past the greatest offset. `read` continues where it did.
     fn read_at(&mut self, offset: u64, buffer: &mut [u8]) -> Result<usize, Failed>
         ensures bound { ReadsAtMost result buffer.new }
