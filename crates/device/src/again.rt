@@ -47,7 +47,6 @@ fn read_behind_at<S: Reread>(
     ensures same { Keeps (S.text source.old) (S.text source.new) }
     ensures grows { StaysRead S.text S.read_to source.old source.new }
     ensures joins { ReadsOn S.text S.read_to source.old source.new (start + filled) result }
-    ensures begun { S.begun source.new ≡ S.begun source.old }
     ensures cause { Counts (S.failures source.old) (S.failures source.new) result }
 {
     source.read_at(start + filled as u64, &mut buffer[filled..])
@@ -73,7 +72,6 @@ pub fn read_full_at<S: Reread>(
     ensures same { Keeps (S.text source.old) (S.text source.new) }
     ensures grows { StaysRead S.text S.read_to source.old source.new }
     ensures joins { ReadsOn S.text S.read_to source.old source.new offset result }
-    ensures begun { S.begun source.new ≡ S.begun source.old }
     ensures cause { Counts (S.failures source.old) (S.failures source.new) result }
 {
     let mut filled = 0;

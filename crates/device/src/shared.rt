@@ -1,6 +1,6 @@
 //! Sources that several threads read at once. Each thread has a reader of its own.
 
-ghost use Rattle.std.specs.Prelude.{◌≡◌, ◌+◌, ◌<◌, ◌^◌, ℕ, List, None, IfOk, Ok, OnErr, length};
+ghost use Rattle.std.specs.Prelude.{◌≡◌, ◌+◌, ◌<◌, ◌≤◌, ◌^◌, ℕ, List, None, IfOk, IfSome, IsTrue, is_some, Ok, OnErr, length};
 ghost use Rattle.std.specs.declared.option.Option.{Option};
 ghost use Rattle.std.specs.Io.{ReadsAtMost};
 ghost use Rattle.std.specs.Io.KnownBytes.{Keeps};
@@ -88,15 +88,19 @@ impl<'a, S: SharedSource> SharedReader<'a, S> {
         }
     }
 
-    /// What it has read without a gap, from where it was begun.
-    pub fn span(&self) -> Span
-        ensures from { span_from result ≡ reader_from self.now }
-        ensures to { span_to result ≡ reader_read_to self.now }
+    /// What it has read without a gap from an offset on. `None` if it was begun after that.
+    pub fn span_from(&self, offset: u64) -> Option<Span>
+        ensures from { IfSome result (λ span. span_from span ≡ offset) }
+        ensures to { IfSome result (λ span. span_to span ≡ reader_read_to self.now) }
+        ensures begun { reader_from self.now ≤ offset → IsTrue (is_some result) }
     {
-        Span {
-            from: self.from,
-            to: self.read_to,
+        if offset < self.from {
+            return None;
         }
+        Some(Span {
+            from: offset,
+            to: self.read_to,
+        })
     }
 }
 
@@ -157,8 +161,6 @@ impl<'a, S: SharedSource> Reread for SharedReader<'a, S> {
     ghost text = { λ reader. S.text (reader_source reader) };
 
     ghost read_to = { reader_read_to };
-
-    ghost begun = { reader_from };
 
     /// `Failed` too if the read ends past the greatest offset. `read` continues where it did.
     fn read_at(&mut self, offset: u64, buffer: &mut [u8]) -> Result<usize, Failed>

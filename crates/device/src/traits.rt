@@ -98,10 +98,6 @@ pub trait Reread: Source {
     /// or is in memory.
     ghost read_to: { Self → ℕ } = { λ _. 0 };
 
-    /// The offset at which its reading was begun: the bytes before it count as read. It stays the
-    /// same.
-    ghost begun: { Self → ℕ } = { λ _. 0 };
-
     /// Puts bytes that the device holds from `offset` on at the front of the buffer, and returns
     /// how many: 0 only if `offset` is at or past the end, or if the buffer is empty. There may be
     /// fewer than the device holds and the buffer takes. The rest of the buffer is not specified,
@@ -116,6 +112,5 @@ pub trait Reread: Source {
             → EndsBy (text self.old) offset) }
         ensures same { Keeps (text self.old) (text self.new) }
         ensures reach { Reaches (text self.old) (read_to self.old) (read_to self.new) offset result }
-        ensures begun { begun self.new ≡ begun self.old }
         ensures cause { Counts (Self.failures self.old) (Self.failures self.new) result };
 }
