@@ -12,6 +12,7 @@ use Rattle.log_laws.specs.Store.{Lawful}
 use Rattle.tables.specs.Lawful.{AreTrue}
 use Rattle.tables.specs.Tables.{TablesContent}
 use Rattle.analysis.specs.Tables.{AreTablesOf, analysed_entry, entry_at, with_dirty}
+use Rattle.analysis.specs.Passing.{HasNone0}
 use Rattle.analysis.specs.Stretch.{Stretch, Describes}
 
 -- the LSN of the first record that changes a page, 0 for none, after one more record
@@ -71,3 +72,11 @@ FindsInStretch lsn glance old new = (log : History) (r : LogRecord) → glance �
 abbrev pub ContinuesFresh : (later : FoundStretch) → (old new : FreshTables) → Type 0
 ContinuesFresh later old new = (log : History) (records : List LogRecord) → HasFoundIn (start (last_lsn log) ▸▸ records) later
     → HasFound log old → HasFound (log ▸▸ records) new
+
+-- if the stretch had no entry of transaction 0, it has none
+abbrev pub StaysWithout0 : (old new : FoundStretch) → Type 0
+StaysWithout0 old new = HasNone0 old.stretch.entries → HasNone0 new.stretch.entries
+
+-- and if neither the log nor a stretch after it had one, both together have none
+abbrev pub JoinsWithout0 : (later : FoundStretch) → (old new : FreshTables) → Type 0
+JoinsWithout0 later old new = HasNone0 old.entries → HasNone0 later.stretch.entries → HasNone0 new.entries

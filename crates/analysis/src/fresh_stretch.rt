@@ -7,6 +7,7 @@ ghost use Rattle.wal.specs.Glances.{glance_of};
 ghost use Rattle.wal.specs.Spelling.{Fits};
 ghost use Rattle.log_laws.specs.Records.{LogRecord, start};
 ghost use Rattle.analysis.specs.Fresh.{HasFoundIn, FindsInStretch, ContinuesFresh};
+ghost use Rattle.analysis.specs.Fresh.{StaysWithout0, JoinsWithout0};
 ghost use Rattle.analysis.specs.Passing.{HasNone0};
 
 use crate::fresh_scan::{FreshScan, first_change_after};
@@ -54,8 +55,7 @@ impl FreshStretch {
         requires seen { (r : LogRecord) × (glance ≡ glance_of r) × Fits r }
         requires room { lsn + 1 < 2 ^ 64 }
         ensures goes_on { OnOk result (FindsInStretch lsn glance self.old self.new) }
-        ensures no_transaction_0 { OnOk result (HasNone0 self.old.stretch.entries
-            → HasNone0 self.new.stretch.entries) }
+        ensures no_transaction_0 { OnOk result (StaysWithout0 self.old self.new) }
         ensures err { IsOkUnless result NoResource }
     {
         self.stretch.note(lsn + 1, glance)?;
@@ -71,8 +71,7 @@ impl FreshScan {
     /// must be begun again.
     pub fn join(&mut self, later: FreshStretch) -> Result<(), Fault>
         ensures goes_on { OnOk result (ContinuesFresh later self.old self.new) }
-        ensures no_transaction_0 { OnOk result (HasNone0 self.old.entries
-            → HasNone0 later.stretch.entries → HasNone0 self.new.entries) }
+        ensures no_transaction_0 { OnOk result (JoinsWithout0 later self.old self.new) }
         ensures err { IsOkUnless result NoResource }
     {
         let FreshStretch {

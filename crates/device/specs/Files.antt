@@ -19,11 +19,20 @@ read_failures source = source.failures.count
 abbrev pub own_source : {F : Type 0} → SharedFileSource F → FileSource F
 own_source source = source.source
 
+-- how often it failed
+abbrev pub own_failures : {F : Type 0} → SharedFileSource F → ℕ
+own_failures source = read_failures (own_source source)
+
 -- if a read succeeded, the file was at the offset before it, if its position is known, and gave these bytes from there
 abbrev pub ReadsThere : {F E : Type 0} → (position : F → Option ℕ) → (remaining : F → Option (List ℕ)) → (before after : F) → (offset : ℕ)
     → Result ℕ E → (buffer : List ℕ) → Type 0
 ReadsThere {F} position remaining before after offset result buffer = OnOk result ((there : F)
     × IfSome (position before) (λ _. position there ≡ Some offset) × ReadConsumes (remaining there) (remaining after) result buffer)
+
+-- the same of the file that such a source reads
+abbrev pub OwnReads : {F E : Type 0} → (position : F → Option ℕ) → (remaining : F → Option (List ℕ)) → (before after : SharedFileSource F) → (offset : ℕ)
+    → Result ℕ E → (buffer : List ℕ) → Type 0
+OwnReads position remaining before after = ReadsThere position remaining (read_file (own_source before)) (read_file (own_source after))
 
 -- the file that is written
 abbrev pub written_file : {F : Type 0} → FileSink F → F

@@ -5,8 +5,8 @@ ghost use Rattle.std.specs.declared.option.Option.{Option};
 ghost use Rattle.std.specs.Io.{ReadsAtMost};
 ghost use Rattle.std.specs.Io.KnownBytes.{Keeps};
 ghost use Rattle.device.specs.Failures.{Counts};
-ghost use Rattle.device.specs.Reread.{EndsBy, Reaches, ReadsFrom};
 ghost use Rattle.device.specs.Rereading.{StaysRead};
+ghost use Rattle.device.specs.Shared.{GivesFrom, EndsIfNone, ReaderGives, ReaderEnds, ReaderReaches, ReachesInAny};
 ghost use Rattle.device.specs.Shared.{CountsSpan, CountsNoMore, span_from, span_to, reader_source, reader_from, reader_read_to, reader_place, reader_failures};
 
 use crate::again::read_to_after;
@@ -25,9 +25,8 @@ pub trait SharedSource: Sync {
     /// still holds the same bytes, and can be read again.
     fn read_at(&self, offset: u64, buffer: &mut [u8]) -> Result<usize, Failed>
         ensures bound { ReadsAtMost result buffer.new }
-        ensures bytes { IfOk result (λ count. ReadsFrom (text self.now) offset count buffer.new) }
-        ensures end { IfOk result (λ count. count ≡ 0 → 0 < length buffer.new
-            → EndsBy (text self.now) offset) };
+        ensures bytes { GivesFrom (text self.now) offset result buffer.new }
+        ensures end { EndsIfNone (text self.now) offset result buffer.new };
 }
 
 /// The bytes that a reader has read without a gap: from one offset to another. Only a
@@ -105,19 +104,18 @@ impl<'a, S: SharedSource> SharedReader<'a, S> {
 }
 
 impl<'a, S> SharedReader<'a, S> {
-    /// Counts a read at an offset that had this answer. `Failed` too if the read ends past the
+    /// Counts a read at an offset, which returned this. `Failed` too if the read ends past the
     /// greatest offset.
-    fn counted(&mut self, offset: u64, answer: Result<usize, Failed>) -> Result<usize, Failed>
-        ensures passed { IfOk result (λ count. answer ≡ Ok count) }
+    fn counted(&mut self, offset: u64, read: Result<usize, Failed>) -> Result<usize, Failed>
+        ensures passed { IfOk result (λ count. read ≡ Ok count) }
         ensures fits { IfOk result (λ count. offset + count < 2 ^ 64) }
         ensures same { reader_source self.new ≡ reader_source self.old }
         ensures begun { reader_from self.new ≡ reader_from self.old }
         ensures place { reader_place self.new ≡ reader_place self.old }
-        ensures reach { (text : Option (List ℕ)) → Reaches text (reader_read_to self.old)
-            (reader_read_to self.new) offset result }
+        ensures reach { ReachesInAny self.old self.new offset result }
         ensures cause { Counts (reader_failures self.old) (reader_failures self.new) result }
     {
-        match answer {
+        match read {
             Ok(count) if offset.checked_add(count as u64).is_some() => {
                 self.read_to = read_to_after(self.read_to, offset, count);
                 Ok(count)
@@ -137,21 +135,18 @@ impl<'a, S: SharedSource> Source for SharedReader<'a, S> {
     /// ends past the greatest offset.
     fn read(&mut self, buffer: &mut [u8]) -> Result<usize, Failed>
         ensures bound { ReadsAtMost result buffer.new }
-        ensures bytes { IfOk result (λ count. ReadsFrom (S.text (reader_source self.old))
-            (reader_place self.old) count buffer.new) }
-        ensures end { IfOk result (λ count. count ≡ 0 → 0 < length buffer.new
-            → EndsBy (S.text (reader_source self.old)) (reader_place self.old)) }
+        ensures bytes { ReaderGives S.text self.old (reader_place self.old) result buffer.new }
+        ensures end { ReaderEnds S.text self.old (reader_place self.old) result buffer.new }
         ensures continues { IfOk result (λ count. reader_place self.new
             ≡ reader_place self.old + count) }
         ensures stays { OnErr result (reader_place self.new ≡ reader_place self.old) }
         ensures same { reader_source self.new ≡ reader_source self.old }
         ensures begun { reader_from self.new ≡ reader_from self.old }
-        ensures reach { Reaches (S.text (reader_source self.old)) (reader_read_to self.old)
-            (reader_read_to self.new) (reader_place self.old) result }
+        ensures reach { ReaderReaches S.text self.old self.new (reader_place self.old) result }
         ensures cause { Counts (reader_failures self.old) (reader_failures self.new) result }
     {
-        let answer = self.source.read_at(self.at, buffer);
-        let count = self.counted(self.at, answer)?;
+        let read = self.source.read_at(self.at, buffer);
+        let count = self.counted(self.at, read)?;
         self.at += count as u64;
         Ok(count)
     }
@@ -165,19 +160,16 @@ impl<'a, S: SharedSource> Reread for SharedReader<'a, S> {
     /// `Failed` too if the read ends past the greatest offset. `read` continues where it did.
     fn read_at(&mut self, offset: u64, buffer: &mut [u8]) -> Result<usize, Failed>
         ensures bound { ReadsAtMost result buffer.new }
-        ensures bytes { IfOk result (λ count. ReadsFrom (S.text (reader_source self.old)) offset
-            count buffer.new) }
-        ensures end { IfOk result (λ count. count ≡ 0 → 0 < length buffer.new
-            → EndsBy (S.text (reader_source self.old)) offset) }
+        ensures bytes { ReaderGives S.text self.old offset result buffer.new }
+        ensures end { ReaderEnds S.text self.old offset result buffer.new }
         ensures source { reader_source self.new ≡ reader_source self.old }
         ensures same { Keeps (S.text (reader_source self.old)) (S.text (reader_source self.new)) }
         ensures begun { reader_from self.new ≡ reader_from self.old }
-        ensures reach { Reaches (S.text (reader_source self.old)) (reader_read_to self.old)
-            (reader_read_to self.new) offset result }
+        ensures reach { ReaderReaches S.text self.old self.new offset result }
         ensures place { reader_place self.new ≡ reader_place self.old }
         ensures cause { Counts (reader_failures self.old) (reader_failures self.new) result }
     {
-        let answer = self.source.read_at(offset, buffer);
-        self.counted(offset, answer)
+        let read = self.source.read_at(offset, buffer);
+        self.counted(offset, read)
     }
 }

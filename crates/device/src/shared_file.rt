@@ -4,7 +4,7 @@
 ghost use Rattle.std.specs.Prelude.{◌≡◌, IfOk, ◌<◌, length};
 ghost use Rattle.std.specs.Io.{ReadsAtMost};
 ghost use Rattle.device.specs.Failures.{Counts};
-ghost use Rattle.device.specs.Files.{ReadsThere, read_file, read_failures, own_source};
+ghost use Rattle.device.specs.Files.{OwnReads, own_failures, own_source, read_file, read_failures};
 
 use crate::{Failed, FileSource, Reread, Share, SharedSource, Source, Span};
 use std::fs::File;
@@ -78,10 +78,9 @@ impl<F: Read + Seek> Reread for SharedFileSource<F> {
     /// As for a [`FileSource`].
     fn read_at(&mut self, offset: u64, buffer: &mut [u8]) -> Result<usize, Failed>
         ensures bound { ReadsAtMost result buffer.new }
-        ensures there { ReadsThere F.stream_position F.remaining (read_file (own_source self.old))
-            (read_file (own_source self.new)) offset result buffer.new }
-        ensures cause { Counts (read_failures (own_source self.old))
-            (read_failures (own_source self.new)) result }
+        ensures there { OwnReads F.stream_position F.remaining self.old self.new offset
+            result buffer.new }
+        ensures cause { Counts (own_failures self.old) (own_failures self.new) result }
     {
         self.source.read_at(offset, buffer)
     }
