@@ -160,7 +160,7 @@ stretches_go_on t m base log records stretch le describes =
     let before = analysed_entry t m base log in
     entries_go_on t m base log records ∙ same_after t m before (start (last_lsn log)) records le refl ∙ sym (describes t before)
 
--- NO ENTRY behind a stretch that has none, if there is none before it
+-- NO ENTRY after a stretch that has none, if there is none before it
 left_none : (finished undone : Bool) → base_left finished undone None ≡ None
 left_none true undone = refl
 left_none false true = refl
