@@ -140,6 +140,8 @@ undo/gathering.rt        get       Log::get
 undo/looked.rt           get       Log::get, Gathered::get
 passes/marks.rt          end       Marks::end
 passes/fresh.rt          end       Marks::end
+passes/read_on.rt        end       Marks::end
+passes/rounds.rt         end       Marks::end
 passes/gather.rt         begin     Gathering::begin
 recovery/first_reading.rt read     -
 device/again.rt          read_at   FileSource::read_at, HeldStore::read_at
@@ -197,15 +199,15 @@ CUTS = {
     'a long log': 'recovery/devices.rt:read_source wal/log.rt:read_log_by',
     'one worker': '''recovery/unthreaded.rt restart/unthreaded.rt recovery/log_text.rt:read_parts
         recovery/decoding.rt:beside_each_other wal/log.rt:read_log_behind restart/forward.rt:side_by_side
-        redo/rounds.rt:redo_in_rounds wal/stretch.rt:stretches_of wal/joining.rt:join_stretches''',
+        redo/rounds.rt:redo_in_rounds wal/stretch.rt:stretches_of wal/joining.rt:join_stretches passes/rounds.rt:read_round''',
     'no threads': 'wal/log.rt:read_log_by board/board.rt board/stop.rt redo/gate.rt',
 }
 
 FEW = ['nothing fails', 'no checkpoint', 'updates and commits alone are read']
 # each way: its name, the most functions that it is to have, where it begins, and what it does not take
 WAYS = [
-    ('recover, 3 records', 334, 'aries_cli/main.rt:main', FEW + ['a recovery', 'new files', 'in pieces', 'one worker']),
-    ('recover in place, 3 records', 377, 'aries_cli/main.rt:main', FEW + ['a recovery', 'in place', 'in pieces', 'one worker']),
+    ('recover, 3 records', 342, 'aries_cli/main.rt:main', FEW + ['a recovery', 'new files', 'in pieces', 'one worker']),
+    ('recover in place, 3 records', 385, 'aries_cli/main.rt:main', FEW + ['a recovery', 'in place', 'in pieces', 'one worker']),
     ('recover in memory, 3 records, 1 worker', 282, 'aries_cli/main.rt:main', FEW + ['a recovery', 'new files', 'in memory', 'one worker']),
     ('recover in memory, 3 records, 4 workers', 317, 'aries_cli/main.rt:main',
      FEW + ['a recovery', 'new files', 'in memory', 'several workers', 'a short log']),

@@ -1,6 +1,7 @@
 """What an operator sees of `aries`: what --verbose says, the modes of new files, what is synced and in which order, and limits
 on the size of files and of stacks. `tests/run.py` calls these."""
 import errno
+import itertools
 import os
 import re
 import resource
@@ -8,6 +9,7 @@ import shutil
 import signal
 import subprocess
 
+from long_logs import long_row
 from program import ARIES, SMALL_ROWS, Row, bytes_of, has_printed, has_refused, library_of, run
 
 NOBODY = 65534  # a user in no group but its own
@@ -218,11 +220,11 @@ def check_unprinted(tally, row):
 
 
 def check_stack(tally, room):
-    row = Row(os.path.join(SMALL_ROWS, "ten-pages"), room)
-    for workers in (1, 64):
+    rows = {"": Row(os.path.join(SMALL_ROWS, "ten-pages"), room), ", a long log": long_row(room)}
+    for (kind, row), workers in itertools.product(rows.items(), (1, 64)):
         ran = row.recover(workers=workers, parts=64, preexec_fn=lambda: resource.setrlimit(resource.RLIMIT_STACK, (128 * 1024, 128 * 1024)))
         is_well = has_printed(ran, bytes_of(row.at("printed"))) and row.is_recovered()
-        tally.say(f"a stack of 128 KiB, {workers} workers", is_well, (ran.returncode, ran.stderr))
+        tally.say(f"a stack of 128 KiB, {workers} workers{kind}", is_well, (ran.returncode, ran.stderr))
 
 
 def check_operation(tally, room):

@@ -188,8 +188,8 @@ def check_prints(tally, room):
         tally.say("a fault that cannot be printed", ran.returncode == 1 and not ran.stdout)
 
 
-# Threads: none for a log in a file, which is read in pieces. For one that is read into memory more of them if more workers are asked for. What is written does
-# not tell. If none are asked for, a short log gets one worker, and a long one four.
+# Threads: none for a short log in a file, which is read in pieces. For a long one, and for each log that is read into memory, more of them if more workers are
+# asked for. What is written does not tell. If none are asked for, a short log gets one worker, and a long one four.
 
 def threads_of(row, room, library, workers, is_piped=False):
     """How many threads a recovery starts; None where it writes something else than the row says."""
@@ -201,8 +201,10 @@ def threads_of(row, room, library, workers, is_piped=False):
 
 def check_threads(tally, room):
     short, long, library = Row(os.path.join(SMALL_ROWS, "ten-pages"), room), long_row(room, base=LARGEST_BASE), library_of(room, "count_threads")
-    in_pieces = [threads_of(row, room, library, workers) for row in (short, long_row(room)) for workers in (4, None)]
-    tally.say("threads of a log in a file", in_pieces == [0] * 4, in_pieces)
+    none = [threads_of(row, room, library, workers) for row, workers in ((short, 4), (short, None), (long_row(room), 1))]
+    tally.say("threads of a short log in a file, and of one worker", none == [0] * 3, none)
+    two, four, default = [threads_of(long_row(room), room, library, workers) for workers in (2, 4, None)]
+    tally.say("threads of a long log in a file", None not in (two, four) and 0 < two < four == default, (two, four, default))
     counts = [threads_of(short, room, library, workers, True) for workers in (1, 4, 64)]
     tally.say("threads of 1, 4 and 64 workers", None not in counts and counts[0] < counts[1] < counts[2], counts)
     one = threads_of(short, room, library, None, True)

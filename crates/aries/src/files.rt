@@ -3,7 +3,7 @@
 ghost use Rattle.std.specs.Prelude.{◌≢◌};
 ghost use Rattle.page.specs.declared.fault.Fault.TheVariants.{NoResource};
 
-use crate::in_pieces::recover_opened;
+use crate::in_pieces::{recover_opened, share_log};
 use crate::new_file::{make, open, sync_folder};
 use device::{FileSink, FileSource, Reread, Source, read_full_at};
 use job_files::{NotedFile, Notes};
@@ -107,10 +107,10 @@ fn recover_made<R: Files<File = File> + Clock + Threads + Sync>(
     may_be_one: bool,
 ) -> Result<Report, Fault> {
     let in_pieces = is_read_in_pieces(rt, alloc, &log, &old.log)?;
-    let mut log = FileSource::sized(NotedFile::new(log, rt, &old.log));
     let mut out_log = FileSink::new(NotedFile::new(new_log, rt, &new.log));
     let mut out_store = FileSink::new(NotedFile::new(new_store, rt, &new.store));
     if in_pieces {
+        let mut log = share_log(rt, log, &old.log)?;
         let mut new_log = CopiedLog { sink: out_log };
         let store = (store, &old.store);
         return recover_opened(
@@ -123,6 +123,7 @@ fn recover_made<R: Files<File = File> + Clock + Threads + Sync>(
             options,
         );
     }
+    let mut log = FileSource::sized(NotedFile::new(log, rt, &old.log));
     let mut store = FileSource::new(NotedFile::new(store, rt, &old.store));
     let options = options_for(options, may_be_one, log.hint());
     recover(
@@ -156,8 +157,9 @@ fn empty_after(fault: Fault, new_log: io::Result<File>, new_store: io::Result<Fi
 /// `WriteLog` and `WriteStore` new files made so far stay as they are: empty, incomplete, or, if a
 /// folder was not synced, whole. After any other fault they are empty.
 ///
-/// A log in a regular file is read in pieces by one thread, and copied as the new log is written.
-/// Then a store in a regular file of more than 16 MiB is read in pieces too, twice; no store of the
+/// A log in a regular file is read in pieces, and copied as the new log is written. The workers of
+/// the options read it the first time, if it has no checkpoint; one thread reads all else. With such
+/// a log a store in a regular file of more than 16 MiB is read in pieces too, twice; no store of the
 /// default profile is so large. Any other store is read into memory first. A log that is no regular
 /// file is read into memory; then one worker does all if it may and the log is short.
 pub fn recover_files<R: Files<File = File> + Clock + Threads + Sync>(

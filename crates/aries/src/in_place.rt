@@ -9,12 +9,12 @@
 //! end, so that no two runs do this at once.
 
 use crate::files::has_low_lsns;
-use crate::in_pieces::recover_opened;
+use crate::in_pieces::{recover_opened, share_log};
 use crate::left::{Finished, finish, remove_left};
 use crate::names::{Opened, PlaceFiles, open_in_place, turn_down};
 use crate::new_file::{make, refuse, remove, sync_folder, sync_found};
 use crate::new_tail::{Cut, NewTail, make_tail};
-use device::{FileLog, FileSink, FileSource};
+use device::{FileLog, FileSink};
 use job_files::{Call, NotedFile, Notes, Refusal, folder_of};
 use page::Fault;
 use recovery::{ContinuedLog, Report};
@@ -24,6 +24,7 @@ use std::cell::Cell;
 use std::fs::{self, File, Files, OpenFile};
 use std::os::unix::fs::MetadataExt;
 use std::rt::Clock;
+use std::thread::Threads;
 
 /// What a recovery in place has done.
 #[derive(Drop)]
@@ -68,7 +69,7 @@ fn check_lsns<C: Clock>(clock: &C, alloc: Global, log: &File, notes: &Notes) -> 
 }
 
 /// Recovers from open files into new ones that were made, and continues the log.
-fn recover_made<'x, R: Files<File = File> + Clock>(
+fn recover_made<'x, R: Files<File = File> + Clock + Threads + Sync>(
     rt: &'x R,
     alloc: Global,
     files: &'x PlaceFiles<'x>,
@@ -83,8 +84,10 @@ fn recover_made<'x, R: Files<File = File> + Clock>(
         lock,
         store,
     } = opened;
+    // The lock is one of `out_log`, another opening of the file. So it stays when a handle of `log`
+    // is closed.
+    let mut log = share_log(rt, log, &files.log)?;
     let new_tail = NewTail::new(rt, alloc, files, (new_tail, lock), cut);
-    let mut log = FileSource::sized(NotedFile::new(log, rt, &files.log));
     let mut new_log = ContinuedLog {
         tail: FileSink::new(new_tail),
         log: FileLog::new(NotedFile::new(out_log, rt, &files.out_log)),
@@ -115,7 +118,7 @@ fn place_store<R: Files<File = File>>(rt: &R, files: &PlaceFiles) -> Result<(), 
 
 /// Makes the new store, recovers, and puts the store in its place. After a fault the new store is
 /// gone.
-fn recover_and_place<'x, R: Files<File = File> + Clock>(
+fn recover_and_place<'x, R: Files<File = File> + Clock + Threads + Sync>(
     rt: &'x R,
     alloc: Global,
     files: &'x PlaceFiles<'x>,
@@ -142,7 +145,7 @@ fn recover_and_place<'x, R: Files<File = File> + Clock>(
 }
 
 /// Finishes what an interrupted run began, and recovers. `new_tail` was made by this process.
-fn finish_and_recover<'x, R: Files<File = File> + Clock>(
+fn finish_and_recover<'x, R: Files<File = File> + Clock + Threads + Sync>(
     rt: &'x R,
     alloc: Global,
     files: &'x PlaceFiles<'x>,
@@ -178,7 +181,7 @@ fn finish_and_recover<'x, R: Files<File = File> + Clock>(
 /// they were, or as the run before would have left the log. If a large store is read once more and
 /// has a fault then (`ReadStore`, `StoreSize` or `BadPage`), the log is continued already, and the
 /// store is as it was.
-pub fn recover_files_in_place<'x, R: Files<File = File> + Clock>(
+pub fn recover_files_in_place<'x, R: Files<File = File> + Clock + Threads + Sync>(
     rt: &'x R,
     alloc: Global,
     files: &'x PlaceFiles<'x>,

@@ -10,7 +10,7 @@
 //!
 //! - `program`: from the words to the exit status.
 //! - `files`: from two files to two files, or an audit; in memory or in pieces.
-//! - `in_pieces`: a recovery in pieces, for new files and in place.
+//! - `in_pieces`: a recovery in pieces, for new files and in place; the workers share the log.
 //! - `new_file`: owners and rights of new files, and how their names reach the disk.
 //! - `in_place`: a recovery in place, which syncs what it finds, finishes it, and then recovers.
 //! - `names`: which files a run in place may change.
@@ -34,7 +34,8 @@ pub use program::run;
 // What a caller needs of the crates below.
 pub use command::{Job, Refusal, command_of};
 pub use device::{
-    Continue, Failed, FileLog, FileSink, FileSource, MemorySink, MemorySource, Reread, Sink, Source,
+    Continue, Failed, FileLog, FileSink, FileSource, MemorySink, MemorySource, Reread, Share,
+    SharedFile, SharedFileSource, SharedSource, Sink, Source, Span,
 };
 pub use held_store::HeldStore;
 pub use page::{Fault, Page, Store};

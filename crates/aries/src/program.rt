@@ -105,7 +105,7 @@ fn run_recovery<R: Files<File = File> + Clock + Threads + Sync, O: Write, E: Wri
 }
 
 /// Recovers in place, in files with these names.
-fn run_in_place<R: Files<File = File> + Clock, O: Write, E: Write>(
+fn run_in_place<R: Files<File = File> + Clock + Threads + Sync, O: Write, E: Write>(
     rt: &R,
     alloc: Global,
     names: &Names,
@@ -134,7 +134,7 @@ fn run_in_place<R: Files<File = File> + Clock, O: Write, E: Write>(
 }
 
 /// Finds the names of a recovery in place, and recovers.
-fn name_and_run<'x, R: Files<File = File> + Clock, O: Write, E: Write>(
+fn name_and_run<'x, R: Files<File = File> + Clock + Threads + Sync, O: Write, E: Write>(
     rt: &R,
     alloc: Global,
     given: (&'x str, &'x str, Option<&'x str>),

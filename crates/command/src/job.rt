@@ -132,7 +132,7 @@ fn recover_command<'a>(alloc: Global) -> Result<Command<'a>, AllocError>
             "workers",
             WORKERS,
             None,
-            "How many threads redo the pages if the log comes through a pipe, 1 to 64",
+            "How many threads read a log without a checkpoint, or redo one from a pipe, 1 to 64",
         ),
         number_option(
             alloc,

@@ -1,15 +1,12 @@
 -- Calls that read a device again: one after another, and into a room that takes each frame.
 use Rattle.std.proofs.Common.{◌≡◌, ℕ, List, Option, Some, Result, Ok, refl, ◌∙◌}
-use Rattle.std.specs.Prelude.{⊤, OnOk, Err}
+use Rattle.std.specs.Prelude.{OnOk, Err}
 use Rattle.device.proofs.Reach.{grows_none, grows_on}
 use Rattle.passes.specs.declared.fault.PassFault.{PassFault}
-use Rattle.passes.specs.Calls.{HasRead}
+use Rattle.passes.specs.Calls.{HasRead, HasReadOn}
 use Rattle.passes.proofs.Reached.{still_told, keeps_same, keeps_on}
 
--- THE DEVICE is still as it was in this: no call has failed
-abbrev pub HasReadOn : {D : Type 0} → (text : D → Option (List ℕ)) → (failures read_to : D → ℕ) → (old now : D) → Type 0
-HasReadOn text failures read_to old now = HasRead {T = ⊤} text failures read_to old now (Ok tt)
-
+-- THE DEVICE is still as it was in this
 -- it still holds these bytes
 pub still : {D T : Type 0} {text : D → Option (List ℕ)} {failures read_to : D → ℕ} {old new : D} {result : Result T PassFault} {bytes : List ℕ} → HasRead text failures read_to old new result → text old ≡ Some bytes → text new ≡ Some bytes
 still {text = text} {old = old} {new = new} {bytes = bytes} read is = still_told (text old) (text new) bytes read.same is

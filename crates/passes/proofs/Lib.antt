@@ -12,3 +12,5 @@ pub mod InPieces
 pub mod Listing
 pub mod OneReading
 pub mod NextRecord
+pub mod ReadOn
+pub mod Stretches

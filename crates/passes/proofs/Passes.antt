@@ -19,10 +19,6 @@ module _ {P : Type 0} (pass : Pass P) where
       (text : List ℕ) (whole before : LogContent) (torn : ℕ) → held ≡ Some text → Reads text whole torn → end ≡ last_lsn (history whole) → IsMark text before from
       → (between : LogContent) × IsMark text between mark × pass.passes old now whole before between
 
-  -- and at the first reading, what is between the first mark and the log before this one
-  abbrev pub TakenBefore : (text : List ℕ) → (old now : P) → (before last : LogContent) → Type 0
-  TakenBefore text old now before last = (whole : LogContent) (torn : ℕ) → Reads text whole torn → pass.passes old now whole before last
-
   -- what is true of a failed device and of each fault of the pass is true of what stops it
   pub stops_as : (old : P) (whole before : LogContent) (Q : PassFault → Type 0) → Q fault.Failed → ((e : Fault) → pass.stops old whole before e → Q (fault.Fault e)) → (e : PassFault) → Stops pass old whole before e → Q e
   stops_as old whole before Q failed own fault.Failed stops = failed

@@ -1,5 +1,5 @@
 -- What a call that reads the log of a device asks of its room, leaves of the device, and says of the log if the device's bytes are known (own).
-use Rattle.std.specs.Prelude.{◌≡◌, ℕ, ◌+◌, ◌-◌, ◌^◌, ◌<◌, ◌≤◌, List, Option, Some, Result, MatchResult}
+use Rattle.std.specs.Prelude.{◌≡◌, ⊤, ℕ, ◌+◌, ◌-◌, ◌^◌, ◌<◌, ◌≤◌, List, Option, Some, Result, Ok, MatchResult}
 use Rattle.std.specs.Io.KnownBytes.{Keeps}
 use Rattle.device.specs.Reread.{ReachGrows}
 use Rattle.log_laws.specs.Records.{LogContent, history, last_lsn}
@@ -21,6 +21,10 @@ pub record HasRead {D T : Type 0} (text : D → Option (List ℕ)) (failures rea
   pub same : Keeps (text old) (text new)
   pub grows : ReachGrows (text old) (read_to old) (read_to new)
   pub counted : MatchResult result (λ _. failures new ≡ failures old) (λ e. failures new ≡ failures old + failures_of_pass e)
+
+-- it has not failed
+abbrev pub HasReadOn : {D : Type 0} → (text : D → Option (List ℕ)) → (failures read_to : D → ℕ) → (old now : D) → Type 0
+HasReadOn text failures read_to old now = HasRead {T = ⊤} text failures read_to old now (Ok tt)
 
 -- IF THE BYTES ARE KNOWN that the device holds, P is true of
 -- them

@@ -8,3 +8,5 @@ pub mod Redoing
 pub mod Gathers
 pub mod InPieces
 pub mod Listing
+pub mod ReadOn
+pub mod Stretches

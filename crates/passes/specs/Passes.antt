@@ -1,26 +1,17 @@
 -- A pass over the log that a device holds: what it has done, and why it stops (own).
-use Rattle.std.specs.Prelude.{◌≡◌, ◌⊎◌, ⊤, ℕ, ◌≤◌, List, [], take, length, Option, Some}
+use Rattle.std.specs.Prelude.{◌≡◌, ◌⊎◌, ⊤, ℕ, ◌≤◌, List, take, length, Option, Some}
 use Rattle.page.specs.declared.fault.Fault.{Fault}
 use Rattle.log_laws.specs.Records.{LogContent, history, last_lsn}
 use Rattle.wal.specs.Reads.{Reads, Cause}
 use Rattle.wal.specs.declared.sizes.TheConstants.{BASED_HEADER_BYTES}
 use Rattle.pieces.specs.declared.mark.Mark.{Mark}
-use Rattle.pieces.specs.Pieces.{IsFirstMark, IsMark, moved}
+use Rattle.pieces.specs.Pieces.{IsMark, moved}
 use Rattle.passes.specs.declared.fault.PassFault.{PassFault}
 use Rattle.passes.specs.declared.fault.PassFault.TheVariants as fault
 use Rattle.passes.specs.declared.pass.Pass.{Ghosts as Pass}
-use Rattle.passes.specs.Calls.{ForMark, ForText, ToEnd}
-use Rattle.passes.specs.Marks.{AreFound}
+use Rattle.passes.specs.Calls.{ForMark, ToEnd}
 use Rattle.passes.specs.Next.{IsBefore}
 use Rattle.passes.specs.Pieces.{PassesOver, StopsIn}
-
--- P is true of each log that the bytes of a device read as, and of the log before its first record, if this is the first mark
-abbrev pub FromFirst : (held : Option (List ℕ)) → Mark → ((before whole : LogContent) → Type 0) → Type 0
-FromFirst held first P = (text : List ℕ) (whole before : LogContent) (torn : ℕ) → held ≡ Some text → Reads text whole torn → before.records ≡ [] → IsMark text before first → P before whole
-
--- THE MARKS are found from the first one on, for a room of this size
-abbrev pub FindsFrom : (held : Option (List ℕ)) → Mark → (room : ℕ) → List Mark → (torn : ℕ) → Type 0
-FindsFrom held first room marks torn = ForText held (λ text. IsFirstMark text first → AreFound text room marks torn)
 
 module _ {P : Type 0} (pass : Pass P) where
   -- OF A PIECE in these bytes
@@ -45,10 +36,6 @@ module _ {P : Type 0} (pass : Pass P) where
   -- all pieces from a mark to the log's end
   abbrev pub TakesToEnd : (held : Option (List ℕ)) → Mark → (end : ℕ) → (old new : P) → Type 0
   TakesToEnd held from end old new = ToEnd held from end (λ before whole. pass.passes old new whole before whole)
-
-  -- all pieces of the log
-  abbrev pub TakesAll : (held : Option (List ℕ)) → (first : Mark) → (old new : P) → Type 0
-  TakesAll held first old new = FromFirst held first (λ before whole. pass.passes old new whole before whole)
 
   -- WHY IT STOPS: a device, or a fault of the pass at a record of a log that is known to be one
   abbrev pub Stops : P → (whole before : LogContent) → PassFault → Type 0
@@ -75,7 +62,3 @@ module _ {P : Type 0} (pass : Pass P) where
   -- after a mark
   abbrev pub StopsAtMark : (held : Option (List ℕ)) → Mark → PassFault → Type 0
   StopsAtMark held mark e = ForMark held mark (λ text before. StopsFirst text e)
-
-  -- after the first one
-  abbrev pub StopsFrom : (held : Option (List ℕ)) → (first : Mark) → PassFault → Type 0
-  StopsFrom held first e = ForText held (λ text. IsFirstMark text first → StopsFirst text e)

@@ -2,15 +2,14 @@
 
 ghost use Rattle.std.specs.Prelude.{◌≡◌, ⊤, length, IfOk, IfErr, OnOk};
 ghost use Rattle.device.specs.Reread.{IsReadThrough};
-ghost use Rattle.device.specs.Rereading.{ReadsRest};
 ghost use Rattle.page.specs.declared.fault.Fault.TheVariants.{NoResource};
 ghost use Rattle.pieces.specs.Pieces.{IsFirstMark, ReachesMark};
 ghost use Rattle.passes.specs.Marks.{IsLow};
 ghost use Rattle.passes.specs.Calls.{IsRoom, HasRead, ForText, FindsMarks, TextCause};
-ghost use Rattle.passes.specs.Passes.{FindsFrom, TakesAll, StopsFrom};
+ghost use Rattle.passes.specs.ReadOn.{AreFirstMarks, ReachesLast};
 
-use crate::forward::take_next;
 use crate::pass::Pass;
+use crate::read_on::{Reading, read_to_end};
 use crate::{Marks, PassFault};
 use device::{Reread, read_full_at};
 use page::Fault;
@@ -22,7 +21,7 @@ use wal::{BASED_HEADER_BYTES, Glance};
 ///
 /// Errors: `Failed` if the source failed; those of [`read_log`](wal::read_log) for the log, if its
 /// first 16 bytes show one.
-pub fn mark_at_start<S: Reread>(
+fn mark_at_start<S: Reread>(
     alloc: Global,
     source: &mut S,
     room: &mut [u8],
@@ -39,42 +38,23 @@ pub fn mark_at_start<S: Reread>(
     Ok(mark)
 }
 
-/// Reads the log that a source holds from its first mark to its end, each piece into the room and
-/// each once, and gives the pieces to a pass. Returns the marks of the log, and how many bytes are
-/// torn at its end.
+/// The marks of a log before any piece of it is read: the one before its first record.
 ///
-/// Errors: `Failed` if the source failed; the first error of [`read_log`](wal::read_log) for the
-/// log; those of the pass; `NoResource` if memory was refused, or if a mark's LSN or its offset is
-/// above 2^63 - 1.
-pub fn read_from_first<S: Reread, P: Pass>(
+/// Errors: those of [`mark_at_start`]; `NoResource` if memory was refused, or if the LSN of the mark
+/// is above 2^63 - 1.
+pub fn begin_marks<S: Reread>(
     alloc: Global,
     source: &mut S,
-    first: Mark,
     room: &mut [u8],
-    pass: &mut P,
-) -> Result<(Marks, usize), PassFault>
+) -> Result<Marks, PassFault>
     requires room { IsRoom (length room.old) }
-    requires ready { P.is_ready pass.old first.lsn }
-    ensures found { IfOk result (λ x. FindsFrom (S.text source.old) first (length room.old)
-        x.0 x.1) }
-    ensures passed { OnOk result (TakesAll P.Pass (S.text source.old) first pass.old pass.new) }
-    ensures keeps { OnOk result (P.keeps pass.old pass.new) }
-    ensures read { OnOk result
-        (ReadsRest S.text S.read_to source.old source.new first.offset) }
-    ensures fault { IfErr result (StopsFrom P.Pass (S.text source.old) first) }
+    ensures first { IfOk result (AreFirstMarks (S.text source.old)) }
+    ensures reach { IfOk result (ReachesLast (S.text source.old) (S.read_to source.new)) }
+    ensures fault { IfErr result (TextCause (S.text source.old)) }
     ensures source { HasRead S.text S.failures S.read_to source.old source.new result }
 {
-    let mut marks = Marks::begin(alloc, first)?;
-    for _ in 0..u64::MAX {
-        let mark = marks.end();
-        let (next, torn) = take_next(source, mark, room, pass)?;
-        if next.lsn == mark.lsn {
-            return Ok((marks, torn));
-        }
-        marks.push(next)?;
-    }
-    // No log has 2^64 - 1 pieces.
-    Err(PassFault::Fault(Fault::NoResource))
+    let first = mark_at_start(alloc, source, room)?;
+    Ok(Marks::begin(alloc, first)?)
 }
 
 /// A pass that looks at nothing: only the marks of the log are wanted.
@@ -131,6 +111,11 @@ pub fn find_marks<S: Reread>(
     ensures fault { IfErr result (TextCause (S.text source.old)) }
     ensures source { HasRead S.text S.failures S.read_to source.old source.new result }
 {
-    let first = mark_at_start(alloc, source, room)?;
-    read_from_first(alloc, source, first, room, &mut NoPass)
+    let marks = begin_marks(alloc, source, room)?;
+    let mut reading = Reading {
+        marks,
+        pass: NoPass,
+    };
+    let torn = read_to_end(source, &mut reading, room)?;
+    Ok((reading.marks, torn))
 }

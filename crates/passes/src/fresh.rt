@@ -11,27 +11,30 @@ ghost use Rattle.redo.specs.Routes.{IsSeen};
 ghost use Rattle.passes.specs.Listing.{TalliesNext, HasBegun, ScansOn, HasFreshTables, BeginsTallies, AreTalliedIn, AreRefused};
 ghost use Rattle.passes.specs.Calls.{IsRoom, HasRead, ForLog, FindsMarks, TextCause};
 
-use crate::find::{mark_at_start, read_from_first};
+use crate::find::begin_marks;
 use crate::pass::Pass;
+use crate::read_on::{Reading, read_to_end};
+use crate::rounds::read_by_workers;
 use crate::{Marks, PassFault};
 use analysis::FreshScan;
 use changes::Pages;
-use device::Reread;
+use device::Share;
 use page::Fault;
 use redo::TallyScan;
 use std::alloc::Global;
+use std::thread::Threads;
 use tables::Tables;
 use wal::Glance;
 
 /// Analysis and redo while a log without a checkpoint is read.
 #[derive(Drop)]
-struct ForwardScan {
+pub struct ForwardScan {
     /// What the records so far do to the transaction table, and where redo begins.
-    tables: FreshScan,
+    pub tables: FreshScan,
     /// The tallies of all pages, unless redo had a fault.
-    tallies: TallyScan,
+    pub tallies: TallyScan,
     /// The fault of redo: its record is on a page that the store lacks, or memory was refused.
-    fault: Option<Fault>,
+    pub fault: Option<Fault>,
 }
 
 /// The scan before the first record of a log with this base LSN. The only error is `NoResource`.
@@ -159,15 +162,18 @@ pub struct ForwardReading {
     pub tallies: Result<TallyScan, Fault>,
 }
 
-/// Reads the log that a source holds from its beginning to its end, each piece into the room and
-/// each once: for its marks, for analysis without a checkpoint, and for redo of the pages of a
-/// store. The pages are in memory, or their changes are.
+/// Reads the log that a source holds from its beginning to its end, each piece once: for its marks,
+/// for analysis without a checkpoint, and for redo of the pages of a store. The pages are in memory,
+/// or their changes are. Most of it is read by this many workers, if it is long enough for two of
+/// them; the rest by the caller, into the room.
 ///
 /// Errors are those of [`find_marks`](crate::find_marks).
-pub fn read_forward<S: Reread, P: Pages>(
+pub fn read_forward<R: Threads + Sync, S: Share, P: Pages>(
+    rt: &R,
     alloc: Global,
     source: &mut S,
     room: &mut [u8],
+    workers: u32,
     pages: &P,
 ) -> Result<ForwardReading, PassFault>
     requires room { IsRoom (length room.old) }
@@ -183,10 +189,13 @@ pub fn read_forward<S: Reread, P: Pages>(
     ensures fault { IfErr result (TextCause (S.text source.old)) }
     ensures source { HasRead S.text S.failures S.read_to source.old source.new result }
 {
-    let first = mark_at_start(alloc, source, room)?;
-    let mut scan = begin_scan(alloc, pages, first.lsn)?;
-    let (marks, torn) = read_from_first(alloc, source, first, room, &mut scan)?;
-    let (tables, tallies) = finish_scan(alloc, scan)?;
+    let marks = begin_marks(alloc, source, room)?;
+    let pass = begin_scan(alloc, pages, marks.end().lsn)?;
+    let mut scan = Reading { marks, pass };
+    read_by_workers(rt, alloc, source, &mut scan, room, workers, pages)?;
+    let torn = read_to_end(source, &mut scan, room)?;
+    let Reading { marks, pass } = scan;
+    let (tables, tallies) = finish_scan(alloc, pass)?;
     Ok(ForwardReading {
         marks,
         torn,

@@ -11,9 +11,10 @@ use crate::fresh::{ForwardReading, read_forward};
 use crate::repeat::end_redo;
 use crate::{Marks, PassFault, find_marks, gather_for_undo, redo_in_pieces, tables_in_pieces};
 use changes::Pages;
-use device::Reread;
+use device::Share;
 use restart::{UndoOutcome, check_lsns, roll_back_on};
 use std::alloc::Global;
+use std::thread::Threads;
 use tables::Tables;
 use undo::{Gathered, Looked, Place};
 
@@ -49,10 +50,12 @@ struct Forward {
 
 /// Analysis and redo of a store whose master is 0: the pieces of the log are read once, and again
 /// if redo needs the image of a record in them. Errors are those of [`go_forward`].
-fn go_at_once<S: Reread, P: Pages>(
+fn go_at_once<R: Threads + Sync, S: Share, P: Pages>(
+    rt: &R,
     alloc: Global,
     source: &mut S,
     room: &mut [u8],
+    workers: u32,
     pages: &mut P,
 ) -> Result<Forward, PassFault>
     requires room { IsRoom (length room.old) }
@@ -64,7 +67,7 @@ fn go_at_once<S: Reread, P: Pages>(
     ensures fault { IfErr result (StopsForward P.Pages (S.text source.old) 0 pages.old) }
     ensures source { HasRead S.text S.failures S.read_to source.old source.new result }
 {
-    let read = read_forward(alloc, source, room, pages)?;
+    let read = read_forward(rt, alloc, source, room, workers, pages)?;
     check_lsns(read.marks.end().lsn, pages)?;
     let ForwardReading {
         marks,
@@ -83,7 +86,7 @@ fn go_at_once<S: Reread, P: Pages>(
 
 /// Analysis and redo, one after the other: the log is read for its marks, then from the checkpoint
 /// on, then from `redo_lsn` on. Errors are those of [`go_forward`].
-fn go_by_passes<S: Reread, P: Pages>(
+fn go_by_passes<S: Share, P: Pages>(
     alloc: Global,
     source: &mut S,
     room: &mut [u8],
@@ -118,10 +121,12 @@ fn go_by_passes<S: Reread, P: Pages>(
 /// `PageAheadOfLog`; `BadMaster`; `NoSuchPage` of redo; `NoResource` if memory was refused, or if
 /// an LSN of the log or an offset in it is above 2^63 - 1. Any other fault is returned only if the
 /// source did not hold the same bytes all the time. After an error the pages are not specified.
-fn go_forward<S: Reread, P: Pages>(
+fn go_forward<R: Threads + Sync, S: Share, P: Pages>(
+    rt: &R,
     alloc: Global,
     source: &mut S,
     room: &mut [u8],
+    workers: u32,
     master: u64,
     pages: &mut P,
 ) -> Result<Forward, PassFault>
@@ -135,7 +140,7 @@ fn go_forward<S: Reread, P: Pages>(
     ensures source { HasRead S.text S.failures S.read_to source.old source.new result }
 {
     if master == 0 {
-        go_at_once(alloc, source, room, pages)
+        go_at_once(rt, alloc, source, room, workers, pages)
     } else {
         go_by_passes(alloc, source, room, master, pages)
     }
@@ -144,16 +149,20 @@ fn go_forward<S: Reread, P: Pages>(
 /// Restarts on the log that a source holds and on the pages of a store with this master, as
 /// [`restart_in_place`](restart::restart_in_place) does in memory. The pages are in memory, or their
 /// changes are. The log is read in pieces, each into the room: from its beginning to its end, and
-/// then only those pieces that are needed again.
+/// then only those pieces that are needed again. A log without a checkpoint is read the first time
+/// by this many workers, of which each gets at least 1 MiB of it and a room of its own; a thread
+/// is started for each of them. What is returned and made does not depend on their number.
 ///
 /// Errors: `Failed` if the source failed; those of [`read_log`](wal::read_log) for the log; then
 /// those of [`restart_alone`](restart::restart_alone); `NoResource` if memory was refused, or if an
 /// LSN of the log or an offset in it is above 2^63 - 1. Any other fault is returned only if the
 /// source did not hold the same bytes all the time. After an error the pages are not specified.
-pub fn restart_in_pieces<S: Reread, P: Pages>(
+pub fn restart_in_pieces<R: Threads + Sync, S: Share, P: Pages>(
+    rt: &R,
     alloc: Global,
     source: &mut S,
     room: &mut [u8],
+    workers: u32,
     master: u64,
     pages: &mut P,
 ) -> Result<Restarted, PassFault>
@@ -184,7 +193,7 @@ pub fn restart_in_pieces<S: Reread, P: Pages>(
     ensures fault { IfErr result (FailsOn P.Pages (S.text source.old) master pages.old) }
     ensures source { HasRead S.text S.failures S.read_to source.old source.new result }
 {
-    let forward = go_forward(alloc, source, room, master, pages)?;
+    let forward = go_forward(rt, alloc, source, room, workers, master, pages)?;
     let Forward {
         marks,
         torn,

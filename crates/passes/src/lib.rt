@@ -36,7 +36,10 @@ mod in_pieces;
 mod marks;
 mod pass;
 mod piece;
+mod read_on;
 mod repeat;
+mod rounds;
+mod stretch;
 
 pub use analyse::tables_in_pieces;
 pub use fault::PassFault;

@@ -1,6 +1,6 @@
 //! The marks of a log, between which it is read in pieces.
 
-ghost use Rattle.std.specs.Prelude.{◌≡◌, ◌⊎◌, ◌+◌, ◌-◌, ◌*◌, ◌^◌, ◌<◌, ◌≤◌, ◌∷◌, [], ◌++◌, length, slice_index_or, IfOk, OnOk, OnErr, IsOkUnless, IsTrue};
+ghost use Rattle.std.specs.Prelude.{◌≡◌, ◌⊎◌, ◌+◌, ◌-◌, ◌*◌, ◌^◌, ◌<◌, ◌≤◌, ◌∷◌, [], ◌++◌, drop, length, slice_index_or, IfOk, OnOk, OnErr, IsOkUnless, IsTrue};
 ghost use Rattle.page.specs.declared.fault.Fault.TheVariants.{NoResource};
 ghost use Rattle.wal.specs.declared.sizes.TheConstants.{HEADER_BYTES, SMALLEST_FRAME};
 ghost use Rattle.pieces.specs.declared.mark.Mark.{Mark};
@@ -16,7 +16,7 @@ use wal::LARGEST_BASE;
 const MOST_RECORDS: u64 = 1 << 59;
 
 /// Whether a mark is low enough to read the log after it.
-fn is_low(mark: Mark) -> bool
+pub fn is_low(mark: Mark) -> bool
     ensures { IsTrue result → IsLow mark }
 {
     mark.lsn <= LARGEST_BASE && mark.offset <= LARGEST_BASE
@@ -96,6 +96,21 @@ impl Marks {
             return Err(Fault::NoResource);
         }
         self.list.push(mark)?;
+        Ok(())
+    }
+
+    /// Adds the marks of a later list after its first, which is the last of these.
+    ///
+    /// The only error is `NoResource`, as [`push`](Marks::push) has it. Some of the marks are added
+    /// then.
+    pub fn append(&mut self, later: &Marks) -> Result<(), Fault>
+        ensures appended { OnOk result (self.new ≡ self.old ++ drop 1 later.now) }
+        ensures some { 0 < length later.now }
+        ensures err { IsOkUnless result NoResource }
+    {
+        for place in 1..later.len() {
+            self.push(later.at(place))?;
+        }
         Ok(())
     }
 

@@ -26,10 +26,11 @@ use crate::log_again::{fault_after, sum_of_cut, sum_of_kept};
 use crate::recovery::{frames_of, report_on};
 use crate::tail_file::TailFile;
 use changes::{Changes, Pages};
-use device::Reread;
+use device::{Reread, Share};
 use page::{Fault, StoreLsns};
 use passes::{Restarted, restart_in_pieces};
 use std::alloc::Global;
+use std::thread::Threads;
 use undo::{Looked, Place};
 
 /// What is made of a log before any of it is written, while the pages of a store are changed.
@@ -85,13 +86,15 @@ pub struct Made {
 /// What is made of the log that a device holds and of the pages of a store with this master. The
 /// pages are in memory, or their changes are; they are changed to those of the new store. The
 /// faults of the log come first, then those of a restart. After an error the pages are not
-/// specified.
-pub fn continue_on<L: Reread, P: Pages>(
+/// specified. This many workers may read the log the first time.
+pub fn continue_on<R: Threads + Sync, L: Share, P: Pages>(
+    rt: &R,
     alloc: Global,
     log: &mut L,
     master: u64,
     pages: &mut P,
     room: &mut [u8],
+    workers: u32,
 ) -> Result<Continuation, Fault>
     requires { length room.old ≡ ROOM }
     ensures lawful { ContinuesLawful P.Pages (L.text log.old) master pages.old pages.new result }
@@ -114,7 +117,7 @@ pub fn continue_on<L: Reread, P: Pages>(
         redo_from,
         redone,
         outcome,
-    } = match restart_in_pieces(alloc, log, room, master, pages) {
+    } = match restart_in_pieces(rt, alloc, log, room, workers, master, pages) {
         Ok(restarted) => restarted,
         Err(stopped) => return Err(fault_after(log, stopped, room)),
     };
@@ -137,11 +140,13 @@ pub fn continue_on<L: Reread, P: Pages>(
 
 /// What is made of the log that a device holds and of a store that has this master and these
 /// PageLSNs. The faults of the log come first, then those of a restart.
-fn make_from<L: Reread>(
+fn make_from<R: Threads + Sync, L: Share>(
+    rt: &R,
     alloc: Global,
     log: &mut L,
     store: StoreLsns,
     room: &mut [u8],
+    workers: u32,
 ) -> Result<Made, Fault>
     requires { length room.old ≡ ROOM }
     ensures lawful { IsMadeLawful (L.text log.old) (λ _ before. AreLsnsOf before store) result }
@@ -160,7 +165,7 @@ fn make_from<L: Reread>(
 {
     let StoreLsns { master, lsns } = store;
     let mut changes = Changes::begin(alloc, lsns)?;
-    let log = continue_on(alloc, log, master, &mut changes, room)?;
+    let log = continue_on(rt, alloc, log, master, &mut changes, room, workers)?;
     Ok(Made {
         log,
         master,
@@ -170,11 +175,13 @@ fn make_from<L: Reread>(
 
 /// What is made of the log that a device holds and of a store, if the store's bytes encode one.
 /// Otherwise the error is the fault of the log, if it has one, and then that of the store.
-fn make<L: Reread>(
+fn make<R: Threads + Sync, L: Share>(
+    rt: &R,
     alloc: Global,
     log: &mut L,
     decoded: Result<StoreLsns, Fault>,
     room: &mut [u8],
+    workers: u32,
 ) -> Result<Made, Fault>
     requires { length room.old ≡ ROOM }
     ensures lawful { IsMadeLawful (L.text log.old) (λ store _. DecodesLsns store decoded)
@@ -192,7 +199,7 @@ fn make<L: Reread>(
     ensures cause { IfRead decoded (Blames ReadLog L.failures log.old log.new result) }
 {
     match decoded {
-        Ok(store) => make_from(alloc, log, store, room),
+        Ok(store) => make_from(rt, alloc, log, store, room, workers),
         Err(fault) => {
             check_log(alloc, log, room)?;
             Err(fault)
@@ -207,33 +214,35 @@ fn make<L: Reread>(
 /// is returned, the log is read to its end, and if it fails there, the fault is `ReadLog`. Then
 /// come `ReadStore`, if the store's device failed, the faults of the log, those of the store, and
 /// those of a restart.
-pub fn read_and_make<L: Reread, R: Reread>(
+pub fn read_and_make<R: Threads + Sync, L: Share, S: Reread>(
+    rt: &R,
     alloc: Global,
     log: &mut L,
-    store: &mut R,
+    store: &mut S,
     room: &mut [u8],
     pieces: &mut [u8],
+    workers: u32,
 ) -> Result<Made, Fault>
     requires room { length room.old ≡ ROOM }
     requires pieces { length pieces.old ≡ PIECE }
-    ensures answer { IfOk result (AreMade (L.text log.old) (R.text store.old)) }
+    ensures answer { IfOk result (AreMade (L.text log.old) (S.text store.old)) }
     ensures few { IfOk result (λ x. length x.changes ≤ PAGES) }
-    ensures lawful { IfErr result (λ e. ForLawfulTexts (L.text log.old) (R.text store.old)
+    ensures lawful { IfErr result (λ e. ForLawfulTexts (L.text log.old) (S.text store.old)
         (IsResourceOrDevice e)) }
     ensures cause { IfErr result (λ e. (options : Options) → AreInRange options
-        → TextsCause (L.text log.old) (R.text store.old) options e) }
+        → TextsCause (L.text log.old) (S.text store.old) options e) }
     ensures named { IfErr result IsOfNoSink }
     ensures log_same { OnOk result (Keeps (L.text log.old) (L.text log.new)) }
-    ensures store_same { OnOk result (Keeps (R.text store.old) (R.text store.new)) }
+    ensures store_same { OnOk result (Keeps (S.text store.old) (S.text store.new)) }
     ensures log_end { OnOk result (IsReadThrough (L.text log.old) (L.read_to log.new)) }
-    ensures store_end { OnOk result (IsReadThrough (R.text store.old) (R.read_to store.new)) }
+    ensures store_end { OnOk result (IsReadThrough (S.text store.old) (S.read_to store.new)) }
     ensures read_to_end { IfErr result
-        (OnceRead (IsReadThrough (R.text store.old) (R.read_to store.new))) }
+        (OnceRead (IsReadThrough (S.text store.old) (S.read_to store.new))) }
     ensures log_read { IfErr result
         (OnceLogRead (IsLogRead (L.text log.old) (L.read_to log.new))) }
     ensures log_source { Blames ReadLog L.failures log.old log.new result }
-    ensures store_source { StoreFails result (R.failures store.old) (R.failures store.new) }
+    ensures store_source { StoreFails result (S.failures store.old) (S.failures store.new) }
 {
     let decoded = read_store_first(alloc, log, store, room, pieces)?;
-    make(alloc, log, decoded.store, room)
+    make(rt, alloc, log, decoded.store, room, workers)
 }

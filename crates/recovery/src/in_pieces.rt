@@ -1,5 +1,5 @@
-//! Recovery with a piece of the log and one of the store in memory: both are read, the new log is
-//! written, and then the new store.
+//! Recovery with a few pieces of the log and one of the store in memory: both are read, the new log
+//! is written, and then the new store.
 
 ghost use Rattle.std.specs.Prelude.{◌≡◌, ◌⊎◌, IfOk, IfErr, OnOk, Err};
 ghost use Rattle.page.specs.declared.fault.Fault.{Fault};
@@ -17,18 +17,24 @@ use crate::log_again::room_for_log;
 use crate::new_log::NewLog;
 use crate::store_changes::write_changed;
 use crate::store_pieces::room_for_pieces;
-use device::{Reread, Sink};
+use device::{Reread, Share, Sink};
 use page::Fault;
 use restart::{Options, check_options};
 use std::alloc::Global;
+use std::thread::Threads;
 
-/// Recovers as [`recover`](crate::recover) does, but in the thread of the caller and without the
-/// log or the store in memory. In memory are 256 KiB of the log, the records that undo needs, 64
-/// images of pages, 12 bytes for each page, the tallies of redo, and the values that change. What
-/// is written does not depend on that, nor on the options.
+/// Recovers as [`recover`](crate::recover) does, but without the log or the store in memory. In
+/// memory are 256 KiB of the log, the records that undo needs, 64 images of pages, 12 bytes for each
+/// page, the tallies of redo, and the values that change. What is written does not depend on that,
+/// nor on the options.
+///
+/// A log without a checkpoint is read the first time by the workers of the options. Each of them
+/// gets at least 1 MiB of the log, and at most 8 MiB at once. It has in memory a room of 256 KiB,
+/// 40 bytes for each page, 128 more for each page that a record there is applied to, and 4 for each
+/// transaction that finishes there. The thread of the caller does all else.
 ///
 /// `store` is read at offsets, first from its beginning to its end. Then `log` is read at offsets,
-/// a piece at a time, from its beginning to its end and then as often as needed. A failure of `log`
+/// in pieces, from its beginning to its end and then as often as needed. A failure of `log`
 /// comes before all other faults of reading but `NoResource`: before one of those is returned, `log`
 /// is read to its end, and if it fails there, the fault is `ReadLog`.
 ///
@@ -64,7 +70,8 @@ use std::alloc::Global;
 /// If the log and the store were lawful, a recovery of the new log, as far as it is written, and of
 /// the old store then ends as this one would have. A copy must have all that was read except the
 /// torn tail for that.
-pub fn recover_in_pieces<LR: Reread, SR: Reread, N: NewLog, SW: Sink>(
+pub fn recover_in_pieces<R: Threads + Sync, LR: Share, SR: Reread, N: NewLog, SW: Sink>(
+    rt: &R,
     alloc: Global,
     log: &mut LR,
     store: &mut SR,
@@ -138,7 +145,8 @@ pub fn recover_in_pieces<LR: Reread, SR: Reread, N: NewLog, SW: Sink>(
     check_options(options)?;
     let mut room = room_for_log(alloc)?;
     let mut pieces = room_for_pieces(alloc)?;
-    let made = read_and_make(alloc, log, store, &mut room, &mut pieces)?;
+    let workers = options.workers;
+    let made = read_and_make(rt, alloc, log, store, &mut room, &mut pieces, workers)?;
     new_log.write(log, &made.log, &mut room)?;
     write_changed(store, out_store, made.master, &made.changes, &mut pieces)?;
     Ok(made.log.report)

@@ -2,8 +2,8 @@
 //! the audit of such bytes.
 //!
 //! Entry points: [`recovery_alone`] from buffer to buffer; [`recover`] over devices, with both logs
-//! and both stores in memory; [`recover_in_pieces`] with a piece of the log and one of the store in
-//! memory, which copies the log ([`CopiedLog`]) or continues it in place ([`ContinuedLog`]).
+//! and both stores in memory; [`recover_in_pieces`] with a few pieces of the log and one of the store
+//! in memory, which copies the log ([`CopiedLog`]) or continues it in place ([`ContinuedLog`]).
 //! [`hold_store`] reads a store into memory for it.
 //!
 //! The promise: on lawful bytes the new log is the old one and its tail, and the new store has

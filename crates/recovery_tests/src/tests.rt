@@ -4,3 +4,4 @@ mod devices;
 mod gate;
 mod long_logs;
 mod recoveries;
+mod workers;

@@ -157,9 +157,9 @@ fn recovered<R: Threads + Sync>(
                 rt, alloc, log, store, out_log, out_store, &OPTIONS, &OpenGate,
             )
         }
-        Way::Copying => recover_in_pieces(alloc, log, store, new_log, out_store, &OPTIONS),
+        Way::Copying => recover_in_pieces(rt, alloc, log, store, new_log, out_store, &OPTIONS),
         Way::CopyingHeld => hold_store(alloc, log, store).and_then(|mut held| {
-            recover_in_pieces(alloc, log, &mut held, new_log, out_store, &OPTIONS)
+            recover_in_pieces(rt, alloc, log, &mut held, new_log, out_store, &OPTIONS)
         }),
     };
     answer.map(|_| ())

@@ -110,7 +110,8 @@ pub struct Besides {
 }
 
 /// A restart on a log that is read in pieces, and on the pages of a store with this master.
-fn restart_on<P: Pages>(
+fn restart_on<R: Threads + Sync, P: Pages>(
+    rt: &R,
     alloc: Global,
     log: &[u8],
     master: u64,
@@ -118,7 +119,16 @@ fn restart_on<P: Pages>(
 ) -> Result<Besides, Fault> {
     let mut room = vec![in alloc; 0; BASED_HEADER_BYTES + LONGEST_FRAME]?;
     let mut source = MemorySource::new(log);
-    let restarted = match restart_in_pieces(alloc, &mut source, &mut room, master, pages) {
+    let workers = GOOD.workers;
+    let restarted = match restart_in_pieces(
+        rt,
+        alloc,
+        &mut source,
+        &mut room,
+        workers,
+        master,
+        pages,
+    ) {
         Ok(restarted) => restarted,
         Err(PassFault::Fault(fault)) => return Err(fault),
         Err(PassFault::Failed) => return Err(Fault::ReadLog),
@@ -156,7 +166,8 @@ fn in_full(alloc: Global, restarted: Restarted) -> Result<Besides, Fault>
 }
 
 /// The pages that a restart in pieces makes of those of a store, and what it makes besides.
-pub fn by_pieces(
+pub fn by_pieces<R: Threads + Sync>(
+    rt: &R,
     alloc: Global,
     log: &[u8],
     store: Store,
@@ -165,10 +176,10 @@ pub fn by_pieces(
     let master = store.master;
     let mut pages = store.pages;
     let besides = match held {
-        Held::Pages => restart_on(alloc, log, master, &mut pages)?,
+        Held::Pages => restart_on(rt, alloc, log, master, &mut pages)?,
         Held::Changes => {
             let mut changes = no_changes(alloc, &pages)?;
-            let besides = restart_on(alloc, log, master, &mut changes)?;
+            let besides = restart_on(rt, alloc, log, master, &mut changes)?;
             change_all(&changes, &mut pages);
             besides
         }
@@ -185,7 +196,8 @@ fn store_with(alloc: Global, master: u64, pages: &[Page]) -> Result<Vec<u8>, Fau
 }
 
 /// Restarts on a log that is read in pieces, and on the bytes of a store of one page.
-fn restarted_by_pieces(
+fn restarted_by_pieces<R: Threads + Sync>(
+    rt: &R,
     alloc: Global,
     text: &Text,
     store: &[u8],
@@ -193,7 +205,7 @@ fn restarted_by_pieces(
 ) -> Result<Answer, Fault> {
     let before = decode_store(alloc, store)?;
     let master = before.master;
-    let (pages, besides) = by_pieces(alloc, &text.bytes, before, held)?;
+    let (pages, besides) = by_pieces(rt, alloc, &text.bytes, before, held)?;
     Ok(Answer {
         log: with_appended(text, &besides.appended)?,
         store: store_with(alloc, master, &pages)?,
@@ -223,8 +235,8 @@ pub fn is_restarted_on<R: Threads + Sync>(
     let before = store_of(alloc, master, page)?;
     let after = store_of(alloc, master, &expected.page)?;
     let answer = restarted(rt, alloc, &row.given, &before, GOOD)?;
-    let by_pieces = restarted_by_pieces(alloc, &row.given, &before, Held::Pages)?;
-    let on_changes = restarted_by_pieces(alloc, &row.given, &before, Held::Changes)?;
+    let by_pieces = restarted_by_pieces(rt, alloc, &row.given, &before, Held::Pages)?;
+    let on_changes = restarted_by_pieces(rt, alloc, &row.given, &before, Held::Changes)?;
     Ok(
         is_expected(&answer, row, &after, expected)
             && is_expected(&by_pieces, row, &after, expected)
@@ -278,8 +290,8 @@ pub fn refused<R: Threads + Sync>(
     if matches!(refusal, Some(Fault::BadWorkers | Fault::BadParting)) {
         return refusal;
     }
-    let by_pieces = restarted_by_pieces(alloc, text, &store, Held::Pages).err();
-    let on_changes = restarted_by_pieces(alloc, text, &store, Held::Changes).err();
+    let by_pieces = restarted_by_pieces(rt, alloc, text, &store, Held::Pages).err();
+    let on_changes = restarted_by_pieces(rt, alloc, text, &store, Held::Changes).err();
     if by_pieces == refusal && on_changes == refusal {
         refusal
     } else {

@@ -379,10 +379,14 @@ fn are_ten_restarted(redone: u64, appended: &[Record], pages: &[Page]) -> bool {
 }
 
 /// Whether a restart of `ten-pages` in pieces does so.
-fn are_ten_restarted_by_pieces(alloc: Global, held: Held) -> Result<bool, Fault> {
+fn are_ten_restarted_by_pieces<R: Threads + Sync>(
+    rt: &R,
+    alloc: Global,
+    held: Held,
+) -> Result<bool, Fault> {
     let log = ten_updates(alloc)?;
     let store = decode_store(alloc, &ten_pages(alloc)?)?;
-    let (pages, made) = by_pieces(alloc, &log, store, held)?;
+    let (pages, made) = by_pieces(rt, alloc, &log, store, held)?;
     Ok(are_ten_restarted(made.numbers.redone, &made.appended, &pages))
 }
 
@@ -398,9 +402,9 @@ fn restarts_ten_pages(rt: HostRuntime) -> Result<(), Fail> {
         let is_right = are_ten_restarted(outcome.redone, &outcome.appended, pages);
         check(is_right, "ten-pages")?;
     }
-    let is_right = are_ten_restarted_by_pieces(alloc, Held::Pages)?;
+    let is_right = are_ten_restarted_by_pieces(&rt, alloc, Held::Pages)?;
     check(is_right, "ten-pages in pieces")?;
-    let is_right = are_ten_restarted_by_pieces(alloc, Held::Changes)?;
+    let is_right = are_ten_restarted_by_pieces(&rt, alloc, Held::Changes)?;
     check(is_right, "the changes of ten-pages")
 }
 

@@ -1,6 +1,6 @@
 use Rattle.std.proofs.Common.{◌≡◌, ◌-◌, length}
 use Rattle.passes.specs.Marks.{IsLow}
-use Rattle.passes.proofs.Calls.{HasReadOn}
+use Rattle.passes.specs.Calls.{HasReadOn}
 use Rattle.passes.proofs.Passes.{HasTaken}
 use Rattle.passes.proofs.forward.pass_to_end.Given as goal
 

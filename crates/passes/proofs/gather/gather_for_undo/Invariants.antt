@@ -5,7 +5,7 @@ use Rattle.undo.specs.Wants.{WantUpTo, wants_in}
 use Rattle.undo.specs.Gathering.{IsGathering}
 use Rattle.passes.specs.Calls.{ForMarked}
 use Rattle.passes.specs.Marks.{AreMarks}
-use Rattle.passes.proofs.Calls.{HasReadOn}
+use Rattle.passes.specs.Calls.{HasReadOn}
 use Rattle.passes.proofs.gather.gather_for_undo.Given as goal
 
 abbrev pub invariant-loop-upto : goal.invariant-loop-upto

@@ -1,7 +1,7 @@
 use Rattle.std.proofs.Common.{◌-◌, ◌≡◌, ◌≤◌, length}
 use Rattle.changes.specs.Numbered.{StayNumbered}
 use Rattle.passes.specs.Redoing.{FetchesAll}
-use Rattle.passes.proofs.Calls.{HasReadOn}
+use Rattle.passes.specs.Calls.{HasReadOn}
 use Rattle.passes.proofs.repeat.fetch_in_pieces.Given as goal
 
 abbrev pub invariant-loop-taken : goal.invariant-loop-taken

@@ -1,7 +1,6 @@
-use Rattle.std.proofs.Common.{refl, subst, inl, inr}
+use Rattle.std.proofs.Common.{refl, inl, inr}
 use Rattle.std.proofs.KnownBytes.{Keeps-refl}
 use Rattle.std.proofs.lemmas.Result.{err_from_is_err_and}
-use Rattle.device.specs.Reread.{IsReadThrough}
 use Rattle.device.proofs.Reach.{read_still}
 use Rattle.passes.proofs.Reached.{still_told}
 use Rattle.recovery.specs.ByPieces.{store_made}

@@ -9,10 +9,11 @@ use super::{
 };
 use aries::{ContinuedLog, Options, Report, TailFile, recover_in_pieces};
 use checks::{check, check_all};
-use device::{MemorySource, Pace, Reread, SlowSink, SlowSource};
+use device::{MemorySource, Pace, Reread, Share, SlowSink, SlowSource};
 use page::{Fault, Page, encode_page};
 use std::alloc::Global;
 use std::test::Fail;
+use std::thread::Threads;
 use wal::Record;
 use worked_rows::written::{
     Row, Text, checkpoint_loser, page_with, prepared_beside_loser, store_of, value,
@@ -74,31 +75,51 @@ fn begun(alloc: Global, worked: &Worked, bytes: &[u8], paces: &Paces) -> Result<
 }
 
 /// What a recovery of a log and a store returns, and writes to these sinks.
-fn recovered<L: Reread, S: Reread>(
+fn recovered<R: Threads + Sync, L: Share, S: Reread>(
+    rt: &R,
     alloc: Global,
     log: &mut L,
     store: &mut S,
     left: &mut Left,
     options: &Options,
 ) -> Result<Report, Fault> {
-    recover_in_pieces(alloc, log, store, &mut left.new, &mut left.store, options)
+    recover_in_pieces(
+        rt,
+        alloc,
+        log,
+        store,
+        &mut left.new,
+        &mut left.store,
+        options,
+    )
 }
 
 /// Recovers a row over devices of these paces, from a log of these bytes.
-fn left_of(alloc: Global, worked: &Worked, bytes: &[u8], paces: &Paces) -> Result<Left, Fail> {
+fn left_of<R: Threads + Sync>(
+    rt: &R,
+    alloc: Global,
+    worked: &Worked,
+    bytes: &[u8],
+    paces: &Paces,
+) -> Result<Left, Fail> {
     let mut left = begun(alloc, worked, bytes, paces)?;
     let mut log = SlowSource::new(bytes, paces.log_source);
     let mut store = SlowSource::new(&worked.before, paces.store_source);
-    left.answer = recovered(alloc, &mut log, &mut store, &mut left, &OPTIONS);
+    left.answer = recovered(rt, alloc, &mut log, &mut store, &mut left, &OPTIONS);
     Ok(left)
 }
 
 /// Recovers a log and a store that are in memory.
-fn left_in_memory(alloc: Global, worked: &Worked, bytes: &[u8]) -> Result<Left, Fail> {
+fn left_in_memory<R: Threads + Sync>(
+    rt: &R,
+    alloc: Global,
+    worked: &Worked,
+    bytes: &[u8],
+) -> Result<Left, Fail> {
     let mut left = begun(alloc, worked, bytes, &Paces::fast())?;
     let mut log = MemorySource::new(bytes);
     let mut store = MemorySource::new(&worked.before);
-    left.answer = recovered(alloc, &mut log, &mut store, &mut left, &OPTIONS);
+    left.answer = recovered(rt, alloc, &mut log, &mut store, &mut left, &OPTIONS);
     Ok(left)
 }
 
@@ -192,13 +213,18 @@ fn torn_log(alloc: Global, worked: &Worked) -> Result<Vec<u8>, Fail> {
 }
 
 /// Recovers a row from memory and over slow devices, its log with and without a torn tail.
-fn check_row(alloc: Global, worked: &Worked, expected: Expected) -> Result<(), Fail> {
+fn check_row<R: Threads + Sync>(
+    rt: &R,
+    alloc: Global,
+    worked: &Worked,
+    expected: Expected,
+) -> Result<(), Fail> {
     let torn = torn_log(alloc, worked)?;
     let slow = Paces::all(Pace::of_step(3));
     for bytes in [worked.row.given.bytes.as_slice(), torn.as_slice()] {
-        let left = left_in_memory(alloc, worked, bytes)?;
+        let left = left_in_memory(rt, alloc, worked, bytes)?;
         check_left(worked, bytes, &left, expected)?;
-        let left = left_of(alloc, worked, bytes, &slow)?;
+        let left = left_of(rt, alloc, worked, bytes, &slow)?;
         check_left(worked, bytes, &left, expected)?;
     }
     Ok(())
@@ -208,16 +234,19 @@ fn check_row(alloc: Global, worked: &Worked, expected: Expected) -> Result<(), F
 fn rows_in_place(rt: HostRuntime) -> Result<(), Fail> {
     let alloc = rt.alloc();
     check_row(
+        &rt,
         alloc,
         &worked_one_commit(alloc)?,
         told([2, 1, 1, 0, 0, 0, 1]),
     )?;
     check_row(
+        &rt,
         alloc,
         &worked_one_loser(alloc)?,
         told([1, 1, 1, 1, 1, 1, 1]),
     )?;
     check_row(
+        &rt,
         alloc,
         &worked_two_losers(alloc)?,
         told([3, 1, 3, 2, 3, 2, 1]),
@@ -229,7 +258,7 @@ fn rows_in_place(rt: HostRuntime) -> Result<(), Fail> {
 fn a_torn_tail_file_is_none(rt: HostRuntime) -> Result<(), Fail> {
     let alloc = rt.alloc();
     let worked = worked_two_losers(alloc)?;
-    let left = left_in_memory(alloc, &worked, &worked.row.given.bytes)?;
+    let left = left_in_memory(&rt, alloc, &worked, &worked.row.given.bytes)?;
     let whole = left.new.tail.bytes();
     for length in 0..whole.len() {
         let (front, _) = whole.split_at(length);
@@ -251,12 +280,14 @@ fn worked_checkpoint(alloc: Global) -> Result<Worked, Fault> {
 fn a_written_page_and_one_in_doubt(rt: HostRuntime) -> Result<(), Fail> {
     let alloc = rt.alloc();
     check_row(
+        &rt,
         alloc,
         &worked_checkpoint(alloc)?,
         told([3, 1, 0, 1, 1, 1, 1]),
     )?;
     let doubtful = prepared_beside_loser(alloc)?;
     check_row(
+        &rt,
         alloc,
         &on_empty_page(alloc, doubtful, &page_with(4, Some(b'a'), None))?,
         Expected {
@@ -318,6 +349,6 @@ fn a_store_of_three_pieces(rt: HostRuntime) -> Result<(), Fail> {
     let alloc = rt.alloc();
     let worked = worked_wide(alloc)?;
     let bytes = worked.row.given.bytes.as_slice();
-    let left = left_in_memory(alloc, &worked, bytes)?;
+    let left = left_in_memory(&rt, alloc, &worked, bytes)?;
     check_left(&worked, bytes, &left, told([3, 1, 2, 0, 0, 0, 130]))
 }

@@ -7,6 +7,7 @@ use device::Pace;
 use page::Fault;
 use std::alloc::Global;
 use std::test::Fail;
+use std::thread::Threads;
 
 /// A device of a recovery.
 #[derive(Clone, Copy)]
@@ -96,8 +97,14 @@ fn stage_of(worked: &Worked, read: &[u8], left: &Left) -> Stage {
 }
 
 /// A recovery of what is left of the log and of the old store must end as the first would have.
-fn check_again(alloc: Global, worked: &Worked, left: &Left, call: u32) -> Result<(), Fail> {
-    let again = left_of(alloc, worked, left.new.log.bytes(), &Paces::fast())?;
+fn check_again<R: Threads + Sync>(
+    rt: &R,
+    alloc: Global,
+    worked: &Worked,
+    left: &Left,
+    call: u32,
+) -> Result<(), Fail> {
+    let again = left_of(rt, alloc, worked, left.new.log.bytes(), &Paces::fast())?;
     let is_whole = again.answer.is_ok() && are_whole(worked, &again);
     check_at(call as usize, is_whole, "gone on from call")
 }
@@ -154,11 +161,17 @@ const NONE: Calls = Calls {
 
 /// What is left at each call of this device, of seven bytes each, that fails before one at which
 /// the recovery succeeds.
-fn failing_calls(alloc: Global, worked: &Worked, device: Device) -> Result<Calls, Fail> {
+fn failing_calls<R: Threads + Sync>(
+    rt: &R,
+    alloc: Global,
+    worked: &Worked,
+    device: Device,
+) -> Result<Calls, Fail> {
     let read = torn_log(alloc, worked)?;
     let mut calls = NONE;
     for call in 1..1000u32 {
         let left = left_of(
+            rt,
             alloc,
             worked,
             &read,
@@ -177,7 +190,7 @@ fn failing_calls(alloc: Global, worked: &Worked, device: Device) -> Result<Calls
             return Err(Fail::new("what is left"));
         };
         calls = counted;
-        check_again(alloc, worked, &left, call)?;
+        check_again(rt, alloc, worked, &left, call)?;
     }
     Err(Fail::new("no end"))
 }
@@ -188,7 +201,7 @@ fn failing_calls(alloc: Global, worked: &Worked, device: Device) -> Result<Calls
 fn a_store_fails_at_each_read(rt: HostRuntime) -> Result<(), Fail> {
     let alloc = rt.alloc();
     let worked = worked_two_losers(alloc)?;
-    let calls = failing_calls(alloc, &worked, Device::StoreSource)?;
+    let calls = failing_calls(&rt, alloc, &worked, Device::StoreSource)?;
     check_all(&[
         (calls.before == 152, "the first reading"),
         (calls.store == 147, "the second"),
@@ -201,7 +214,7 @@ fn a_store_fails_at_each_read(rt: HostRuntime) -> Result<(), Fail> {
 fn a_log_fails_at_each_read(rt: HostRuntime) -> Result<(), Fail> {
     let alloc = rt.alloc();
     let worked = worked_two_losers(alloc)?;
-    let calls = failing_calls(alloc, &worked, Device::LogSource)?;
+    let calls = failing_calls(&rt, alloc, &worked, Device::LogSource)?;
     let only = Calls {
         before: calls.before,
         ..NONE
@@ -216,9 +229,9 @@ fn a_log_fails_at_each_read(rt: HostRuntime) -> Result<(), Fail> {
 fn each_sink_in_place_fails_at_each_call(rt: HostRuntime) -> Result<(), Fail> {
     let alloc = rt.alloc();
     let worked = worked_two_losers(alloc)?;
-    let tail = failing_calls(alloc, &worked, Device::Tail)?;
-    let log = failing_calls(alloc, &worked, Device::Log)?;
-    let store = failing_calls(alloc, &worked, Device::Store)?;
+    let tail = failing_calls(&rt, alloc, &worked, Device::Tail)?;
+    let log = failing_calls(&rt, alloc, &worked, Device::Log)?;
+    let store = failing_calls(&rt, alloc, &worked, Device::Store)?;
     check_all(&[
         (
             tail.before == 1 && tail.tail == 33 && tail.log == 0 && tail.store == 0,
@@ -243,11 +256,17 @@ fn flushes_in_place_fail(rt: HostRuntime) -> Result<(), Fail> {
         ("log", Device::Log, Stage::Log, 0),
         ("store", Device::Store, Stage::Store, 1048),
     ] {
-        let left = left_of(alloc, &worked, &read, &device.of_pace(Pace::unflushed()))?;
+        let left = left_of(
+            &rt,
+            alloc,
+            &worked,
+            &read,
+            &device.of_pace(Pace::unflushed()),
+        )?;
         check(has_ended(&left, device.fault()), name)?;
         check(stage_of(&worked, &read, &left) == stage, name)?;
         check(left.store.bytes().len() == length, name)?;
-        check_again(alloc, &worked, &left, 0)?;
+        check_again(&rt, alloc, &worked, &left, 0)?;
     }
     Ok(())
 }
@@ -264,7 +283,7 @@ fn both_sources_in_place_fail(rt: HostRuntime) -> Result<(), Fail> {
         store_source: failing,
         ..Paces::fast()
     };
-    let left = left_of(alloc, &worked, bytes, &paces)?;
+    let left = left_of(&rt, alloc, &worked, bytes, &paces)?;
     check(has_ended(&left, Fault::ReadLog), "the fault")?;
     check(is_untouched(&left, bytes), "untouched")
 }

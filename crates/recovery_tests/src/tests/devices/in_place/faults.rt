@@ -10,6 +10,7 @@ use device::{MemorySource, Pace};
 use page::{Fault, Page};
 use std::alloc::Global;
 use std::test::Fail;
+use std::thread::Threads;
 use worked_rows::ten_pages::ten_updates;
 use worked_rows::written::{clr_points_past_zero, page_with, store_of};
 
@@ -22,19 +23,25 @@ fn refusal(left: &Left, bytes: &[u8]) -> Option<Fault> {
 }
 
 /// The fault of these bytes of a log, with the store of a row.
-fn log_refusal(alloc: Global, worked: &Worked, bytes: &[u8]) -> Result<Option<Fault>, Fail> {
-    let left = left_in_memory(alloc, worked, bytes)?;
+fn log_refusal<R: Threads + Sync>(
+    rt: &R,
+    alloc: Global,
+    worked: &Worked,
+    bytes: &[u8],
+) -> Result<Option<Fault>, Fail> {
+    let left = left_in_memory(rt, alloc, worked, bytes)?;
     Ok(refusal(&left, bytes))
 }
 
 /// The fault of a row whose store has these bytes.
-fn store_refusal(
+fn store_refusal<R: Threads + Sync>(
+    rt: &R,
     alloc: Global,
     worked: &mut Worked,
     store: Vec<u8>,
 ) -> Result<Option<Fault>, Fail> {
     worked.before = store;
-    let left = left_in_memory(alloc, worked, &worked.row.given.bytes)?;
+    let left = left_in_memory(rt, alloc, worked, &worked.row.given.bytes)?;
     Ok(refusal(&left, &worked.row.given.bytes))
 }
 
@@ -60,7 +67,7 @@ fn spoiled_stores(rt: HostRuntime) -> Result<(), Fail> {
         ("number", 27, Fault::BadPage(0)),
     ] {
         let store = spoiled_store(alloc, place)?;
-        let refused = store_refusal(alloc, &mut worked, store)?;
+        let refused = store_refusal(&rt, alloc, &mut worked, store)?;
         check(refused == Some(fault), name)?;
     }
     Ok(())
@@ -79,7 +86,7 @@ fn a_spoiled_store_fails_at_each_read(rt: HostRuntime) -> Result<(), Fail> {
             store_source: Pace::failing(7, call),
             ..Paces::fast()
         };
-        let left = left_of(alloc, &worked, bytes, &paces)?;
+        let left = left_of(&rt, alloc, &worked, bytes, &paces)?;
         let fault = match call {
             153 => Fault::BadStoreHeader,
             _ => Fault::ReadStore,
@@ -104,7 +111,7 @@ fn stores_of_another_size(rt: HostRuntime) -> Result<(), Fail> {
     ] {
         let mut store = store_of(alloc, 0, &Page::empty(0))?;
         store.resize(length, 0)?;
-        let refused = store_refusal(alloc, &mut worked, store)?;
+        let refused = store_refusal(&rt, alloc, &mut worked, store)?;
         check(refused == Some(fault), name)?;
     }
     Ok(())
@@ -130,7 +137,7 @@ fn spoiled_logs_with_good_and_bad_stores(rt: HostRuntime) -> Result<(), Fail> {
             if let Some(byte) = bytes.get_mut(place) {
                 *byte = 99;
             }
-            let refused = log_refusal(alloc, &worked, &bytes)?;
+            let refused = log_refusal(&rt, alloc, &worked, &bytes)?;
             check(refused == Some(fault), name)?;
         }
     }
@@ -142,12 +149,12 @@ fn spoiled_logs_with_good_and_bad_stores(rt: HostRuntime) -> Result<(), Fail> {
 fn restarts_that_are_refused(rt: HostRuntime) -> Result<(), Fail> {
     let alloc = rt.alloc();
     let mut worked = worked_one_loser(alloc)?;
-    let missing = log_refusal(alloc, &worked, &ten_updates(alloc)?)?;
-    let broken = log_refusal(alloc, &worked, &clr_points_past_zero(alloc)?.bytes)?;
+    let missing = log_refusal(&rt, alloc, &worked, &ten_updates(alloc)?)?;
+    let broken = log_refusal(&rt, alloc, &worked, &clr_points_past_zero(alloc)?.bytes)?;
     let ahead = store_of(alloc, 0, &page_with(2, None, None))?;
-    let ahead = store_refusal(alloc, &mut worked, ahead)?;
+    let ahead = store_refusal(&rt, alloc, &mut worked, ahead)?;
     let master = store_of(alloc, 1, &Page::empty(0))?;
-    let master = store_refusal(alloc, &mut worked, master)?;
+    let master = store_refusal(&rt, alloc, &mut worked, master)?;
     check_all(&[
         (missing == Some(Fault::NoSuchPage(2)), "a missing page"),
         (broken == Some(Fault::BrokenChain(2)), "a broken chain"),
@@ -157,7 +164,8 @@ fn restarts_that_are_refused(rt: HostRuntime) -> Result<(), Fail> {
 }
 
 /// The fault of a row with these options.
-fn options_refusal(
+fn options_refusal<R: Threads + Sync>(
+    rt: &R,
     alloc: Global,
     worked: &Worked,
     workers: u32,
@@ -168,7 +176,7 @@ fn options_refusal(
     let mut left = begun(alloc, worked, bytes, &Paces::fast())?;
     let mut log = MemorySource::new(bytes);
     let mut store = MemorySource::new(&worked.before);
-    left.answer = recovered(alloc, &mut log, &mut store, &mut left, &options);
+    left.answer = recovered(rt, alloc, &mut log, &mut store, &mut left, &options);
     Ok(refusal(&left, bytes))
 }
 
@@ -189,7 +197,7 @@ fn options_out_of_range_in_place(rt: HostRuntime) -> Result<(), Fail> {
             Fault::BadStoreHeader,
         ),
     ] {
-        let refused = options_refusal(alloc, &worked, workers, parts)?;
+        let refused = options_refusal(&rt, alloc, &worked, workers, parts)?;
         check(refused == Some(fault), name)?;
     }
     Ok(())
