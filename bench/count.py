@@ -33,11 +33,12 @@ ASKED_THROUGH = ("rattle_alloc", "rattle_realloc")
 # first, so that no processor waits for them at the end.
 LARGER = {"mixed": 500_000, "rollback": 20_000, "recover": 1_000_000, "dump": 1_000_000, "audit": 1_000_000, "write": 200_000}
 
-# A recovery of files: the shape and the size of the log that logs.py makes, and where the new log goes.
-FILES = ["files fresh 1M in-place", "files fresh 10M in-place", "files ckpt90 10M in-place", "files fresh 10M copied"]
+# A recovery of files: the shape and the size of the log that logs.py makes, where the new log goes, and how many workers there are if more than one.
+FILES = ["files fresh 1M in-place", "files fresh 10M in-place", "files ckpt90 10M in-place", "files fresh 10M copied", "files fresh 10M in-place-by-4"]
 HOW = {
-    "in-place": ["--in-place", "--replace"],
-    "copied": ["--out-log", "new-log", "--out-store", "new-store"],
+    "in-place": ["--in-place", "--replace", "--workers", "1"],
+    "copied": ["--out-log", "new-log", "--out-store", "new-store", "--workers", "1"],
+    "in-place-by-4": ["--in-place", "--replace", "--workers", "4"],
 }
 
 
