@@ -1,5 +1,5 @@
 """A long log: what its recovery writes is worked out here by hand, from docs/FORMATS.md. With the largest base LSN it is read into memory, by two workers or
-more in two parts; else in pieces."""
+more in two parts; else in pieces, by two or more in stretches."""
 import functools
 import os
 import struct
@@ -124,9 +124,9 @@ def check_long_log(tally, name, row, counts):
 def check_long_logs(tally, room):
     for name, torn in TORN.items():
         for value_of, values in ((digit, ""), (looks_like_a_frame, ", values like frames")):
-            check_long_log(tally, f"{name}{values}, in pieces", long_row(room, torn, value_of), [(4, 16)])
+            check_long_log(tally, f"{name}{values}, in pieces", long_row(room, torn, value_of), [(1, 1), (2, 3), (4, 16), (64, 16)])
             check_long_log(tally, f"{name}{values}, in memory", long_row(room, torn, value_of, LARGEST_BASE), [(1, 1), (2, 3), (4, 16)])
     for number in (UPDATES // 4, UPDATES // 2, UPDATES // 4 * 3, UPDATES):
-        check_fault(tally, long_row(room), number, 8, 4)
         for workers in (1, 2, 4):
+            check_fault(tally, long_row(room), number, 8, workers)
             check_fault(tally, long_row(room, base=LARGEST_BASE), number, 16, workers)

@@ -37,6 +37,7 @@ CHECKS = [Check(*row) for row in (
     ("instructions", "documents", "check_instructions", NOTHING, "aries_cli aries_dump workloads", "instructions of the workloads"),
     ("large-rows", "recoveries", "check_large_rows", ROOM, "aries_cli", "rows of real size"),
     ("long-logs", "long_logs", "check_long_logs", ROOM, "aries_cli", "logs that are read in two parts"),
+    ("stretches", "stretches", "check_stretches", ROOM, "aries_cli", "logs that the workers share"),
     ("version-2", "recoveries", "check_version_2", ROOM, "aries_cli", "the small rows as logs of version 2"),
     ("threads", "recoveries", "check_threads", ROOM, "aries_cli", "how many threads are started"),
     ("files", "recoveries", "check_files", ROOM, "aries_cli", "new files that are there already"),
