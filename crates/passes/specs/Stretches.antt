@@ -65,7 +65,7 @@ abbrev pub AreReadBy : (held : Option (List ℕ)) → (room : ℕ) → (old new 
 AreReadBy held room old new = (k : ℕ) (d : Stretch) → k < length old → IsTried held room (slice_index_or old k d) (slice_index_or new k d)
 
 -- A STRETCH that was read
--- fits to the tallies of so many pages, and its span begins at its first mark
+-- fits the tallies of so many pages, and its span begins at its first mark
 pub record IsFit (pages : ℕ) (stretch : Stretch) : Type 0 where
   pub ready : IsReadyAfter (λ scan lsn. scan.tallies.upto ≤ lsn) stretch.reading
   pub base : (d : Mark) → stretch.reading.pass.tallies.base ≡ (slice_index_or stretch.reading.marks 0 d).lsn

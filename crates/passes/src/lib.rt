@@ -13,8 +13,11 @@
 //!   (`InPieces`).
 //! - `fresh`: one forward reading of a log without a checkpoint, for marks, tables and tallies
 //!   together (`Listing`).
+//! - `rounds`, `stretch`: the part of that reading that several workers share. Each reads a stretch
+//!   of the log, and these are joined in its order (`Stretches`).
 //! - `find`, `marks`: the first reading, and the marks between which the log is read again
 //!   (`Marks`).
+//! - `read_on`: a log that is read on from its last mark, to a border or to its end (`ReadOn`).
 //! - `pass`, `frames`, `forward`: what looks at the records, and how frames and pieces are read for
 //!   it (`Pieces`, `Passes`, `Next`).
 //! - `piece`: a piece that is read once more.
